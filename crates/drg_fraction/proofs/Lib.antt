@@ -1,0 +1,6 @@
+pub mod Parts
+pub mod Coprime
+pub mod Sums
+pub mod Products
+pub mod Texts
+pub mod Fields

@@ -1,0 +1,7 @@
+pub mod Work
+pub mod Whole
+pub mod Fraction
+pub mod Field
+pub mod Rationals
+pub mod Text
+pub mod Members
