@@ -1,0 +1,86 @@
+-- The names of the tests, and what a claim says: its test, its indices, its class and its text.
+use Rattle.std.specs.Prelude.{ℕ, List, [], ◌∷◌, ◌++◌, codes, decimal}
+use Rattle.std.specs.List.{flat_map}
+use Rattle.drg_array.specs.declared.test.Test.{Test}
+use Rattle.drg_array.specs.declared.test.Test.TheVariants as test
+use Rattle.drg_array.specs.declared.claim.Class.{Class}
+use Rattle.drg_array.specs.declared.claim.Class.TheVariants.{Counting, Spectral}
+use Rattle.drg_array.specs.declared.claim.Claim.{Claim}
+use Rattle.drg_array.specs.declared.claim.Claim.TheVariants.{First, Degree, Order, Cross, Size, Intersect, Handshake, Induced, Triangles, Mult, Krein, Absolute, Triple, Ktriple}
+
+abbrev pub test_name : Test → List ℕ
+test_name test.First = codes "first"
+test_name test.Degree = codes "degree"
+test_name test.Order = codes "order"
+test_name test.Cross = codes "cross"
+test_name test.Size = codes "size"
+test_name test.Intersect = codes "intersect"
+test_name test.Handshake = codes "handshake"
+test_name test.Induced = codes "induced"
+test_name test.Triangles = codes "triangles"
+test_name test.Mult = codes "mult"
+test_name test.Krein = codes "krein"
+test_name test.Absolute = codes "absolute"
+test_name test.Triple = codes "triple"
+test_name test.Ktriple = codes "ktriple"
+
+-- the tests of counts alone are 1 to 9 and triple
+abbrev pub class_of_test : Test → Class
+class_of_test test.First = Counting
+class_of_test test.Degree = Counting
+class_of_test test.Order = Counting
+class_of_test test.Cross = Counting
+class_of_test test.Size = Counting
+class_of_test test.Intersect = Counting
+class_of_test test.Handshake = Counting
+class_of_test test.Induced = Counting
+class_of_test test.Triangles = Counting
+class_of_test test.Mult = Spectral
+class_of_test test.Krein = Spectral
+class_of_test test.Absolute = Spectral
+class_of_test test.Triple = Counting
+class_of_test test.Ktriple = Spectral
+
+-- the test that fails
+abbrev pub test_of : Claim → Test
+test_of First = test.First
+test_of (Degree i) = test.Degree
+test_of (Order i) = test.Order
+test_of (Cross i j) = test.Cross
+test_of (Size i) = test.Size
+test_of (Intersect h i j) = test.Intersect
+test_of (Handshake i) = test.Handshake
+test_of (Induced i j) = test.Induced
+test_of (Triangles i) = test.Triangles
+test_of (Mult i) = test.Mult
+test_of (Krein i j h) = test.Krein
+test_of (Absolute i j) = test.Absolute
+test_of (Triple u v w) = test.Triple
+test_of (Ktriple u v w) = test.Ktriple
+
+-- the indices at which it fails, in the order in which they are written
+abbrev pub indices_of : Claim → List ℕ
+indices_of First = []
+indices_of (Degree i) = i ∷ []
+indices_of (Order i) = i ∷ []
+indices_of (Cross i j) = i ∷ j ∷ []
+indices_of (Size i) = i ∷ []
+indices_of (Intersect h i j) = h ∷ i ∷ j ∷ []
+indices_of (Handshake i) = i ∷ []
+indices_of (Induced i j) = i ∷ j ∷ []
+indices_of (Triangles i) = i ∷ []
+indices_of (Mult i) = i ∷ []
+indices_of (Krein i j h) = i ∷ j ∷ h ∷ []
+indices_of (Absolute i j) = i ∷ j ∷ []
+indices_of (Triple u v w) = u ∷ v ∷ w ∷ []
+indices_of (Ktriple u v w) = u ∷ v ∷ w ∷ []
+
+abbrev pub class_of : Claim → Class
+class_of claim = class_of_test (test_of claim)
+
+-- the numbers, with one space before each
+abbrev pub spaced : List ℕ → List ℕ
+spaced numbers = flat_map (λ n. 32 ∷ decimal n) numbers
+
+abbrev pub claim_text : Claim → List ℕ
+claim_text claim = test_name (test_of claim) ++ spaced (indices_of claim)

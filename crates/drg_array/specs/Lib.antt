@@ -1,0 +1,14 @@
+pub mod Claims
+pub mod ConditionLaws
+pub mod Conditions
+pub mod Entries
+pub mod Examples
+pub mod Faults
+pub mod Laws
+pub mod Nodes
+pub mod NumberLaws
+pub mod Numbers
+pub mod Reader
+pub mod Reading
+pub mod TestLists
+pub mod Text

@@ -1,0 +1,13 @@
+//! Laws of array texts, for callers that need them: each is a fact about the grammar alone.
+
+ghost use Rattle.drg_array.specs.Laws.{OneArray, OneFault, ArrayOrFault, NotBoth, CanonicalIsText};
+
+/// Each text is the text of one array, or has one fault, and never both. The canonical text of an
+/// array is a text of that array, so that it is read again as the same array.
+pub fn text_law()
+    ensures one_array { OneArray }
+    ensures one_fault { OneFault }
+    ensures either { ArrayOrFault }
+    ensures not_both { NotBoth }
+    ensures canonical { CanonicalIsText }
+{}

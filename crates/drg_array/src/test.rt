@@ -1,0 +1,73 @@
+//! The names of the fourteen tests.
+
+ghost use Rattle.std.specs.Prelude.{◌≡◌, ◌++◌, OnOk};
+ghost use Rattle.drg_array.specs.Claims.{test_name};
+
+use std::alloc::AllocError;
+
+/// A feasibility condition, in the order in which the conditions are tested: each holds where its
+/// line says. Tests 1 to 6 and 10 to 12 are those of Brouwer, Cohen and Neumaier 1989; 7 to 9 are
+/// elementary counting; 13 and 14 are after Vidali 2018.
+#[derive(Clone, Copy, Debug, Default, PartialEq, Eq)]
+pub enum Test {
+    /// `c_1 = 1`.
+    #[default]
+    First,
+    /// `a_i >= 0` for i from 1 to d.
+    Degree,
+    /// `b_i >= b_(i+1)` and `c_i <= c_(i+1)` for i from 1 to d - 1.
+    Order,
+    /// `c_i <= b_j` for i from 1 and i + j up to d.
+    Cross,
+    /// The size `k_i` is whole for i from 1 to d.
+    Size,
+    /// `p^h_ij` is whole and not negative for all h, i, j.
+    Intersect,
+    /// `n k_i` is even for i from 1 to d.
+    Handshake,
+    /// `k_i p^i_ij` is even for i and j from 1 to d.
+    Induced,
+    /// 6 divides `n k_i p^i_ii` for i from 1 to d.
+    Triangles,
+    /// The multiplicity `m_i` is a positive whole number for i from 1 to d.
+    Mult,
+    /// `q^h_ij >= 0` for `1 <= i <= j <= h <= d`.
+    Krein,
+    /// The absolute bound holds for `1 <= i <= j <= d`.
+    Absolute,
+    /// The counting system of each live type of triples has a solution.
+    Triple,
+    /// The same with the equations from vanishing Krein parameters.
+    Ktriple,
+}
+
+impl Test {
+    /// The name, in lowercase letters.
+    pub fn name(&self) -> &'static str
+        ensures { result.now ≡ test_name self.now }
+    {
+        match self {
+            Test::First => "first",
+            Test::Degree => "degree",
+            Test::Order => "order",
+            Test::Cross => "cross",
+            Test::Size => "size",
+            Test::Intersect => "intersect",
+            Test::Handshake => "handshake",
+            Test::Induced => "induced",
+            Test::Triangles => "triangles",
+            Test::Mult => "mult",
+            Test::Krein => "krein",
+            Test::Absolute => "absolute",
+            Test::Triple => "triple",
+            Test::Ktriple => "ktriple",
+        }
+    }
+
+    /// Appends the name. After an error nothing is appended.
+    pub fn write_text(&self, out: &mut Vec<u8>) -> Result<(), AllocError>
+        ensures ok { OnOk result (out.new.items ≡ out.old.items ++ test_name self.now) }
+    {
+        out.extend_from_slice(self.name().as_bytes())
+    }
+}

@@ -1,0 +1,345 @@
+//! Texts and faults by hand, each public call once.
+use crate::{Array, ArrayFault, ArrayKind, Claim, Class, Node, Test, TestSet};
+use std::test::Fail;
+
+fn is_refused(text: &str, at: u64, kind: ArrayKind) -> bool {
+    matches!(Array::read(text.as_bytes()), Err(fault) if fault == ArrayFault { at, kind })
+}
+
+#[test]
+fn reads_texts(rt: HostRuntime) -> Result<(), Fail> {
+    let array = Array::read(b"{3,2;1,1}")?;
+    assert_eq!(rt; array.d(), 2);
+    assert_eq!(rt; array.valency(), 3);
+    for text in [
+        "{3,2;1,1}",
+        " {3,2;1,1}",
+        "{ 3,2;1,1}",
+        "{3 ,2;1,1}",
+        "{3, 2;1,1}",
+        "{3,2 ;1,1}",
+        "{3,2; 1,1}",
+        "{3,2;1 ,1}",
+        "{3,2;1, 1}",
+        "{3,2;1,1 }",
+        "{3,2;1,1} ",
+        "   {   3  ,  2 ; 1   ,  1  }  ",
+    ] {
+        assert!(rt;
+            matches!(Array::read(text.as_bytes()), Ok(same) if same == array),
+            "{text}"
+        );
+    }
+    let twelve = "{4095,1,1,1,1,1,1,1,1,1,1,1;1,1,1,1,1,1,1,1,1,1,1,4095}";
+    let array = Array::read(twelve.as_bytes())?;
+    assert_eq!(rt; array.d(), 12);
+    assert_eq!(rt; array.b(0), 4095);
+    assert_eq!(rt; array.c(12), 4095);
+    Ok(())
+}
+
+#[test]
+fn refuses_texts(rt: HostRuntime) -> Result<(), Fail> {
+    for (text, at, kind) in [
+        ("{3,2;1}", 7, ArrayKind::Lengths),
+        ("{3,2;1 }", 8, ArrayKind::Lengths),
+        ("{3,2;1,1,1}", 9, ArrayKind::Lengths),
+        ("{3,2;1,1 ,1}", 10, ArrayKind::Lengths),
+        ("{3;1,1}", 5, ArrayKind::Lengths),
+        ("{}", 2, ArrayKind::Syntax),
+        ("", 1, ArrayKind::Syntax),
+        ("  ", 3, ArrayKind::Syntax),
+        ("3", 1, ArrayKind::Syntax),
+        ("{3,2;1,1", 9, ArrayKind::Syntax),
+        ("{3,2;1,1}}", 10, ArrayKind::Syntax),
+        ("{3,2;1,1}\n", 10, ArrayKind::Syntax),
+        ("{3,2;}", 6, ArrayKind::Syntax),
+        ("{3,2,;1,1}", 6, ArrayKind::Syntax),
+        ("{3,2}", 5, ArrayKind::Syntax),
+        ("{3,2;1;1}", 7, ArrayKind::Syntax),
+        ("{3 2;1,1}", 4, ArrayKind::Syntax),
+        ("{3,+2;1,1}", 4, ArrayKind::Syntax),
+        ("{3,2;1,1} x", 11, ArrayKind::Syntax),
+        ("{3,0;1,1}", 4, ArrayKind::Zero),
+        ("{03,2;1,1}", 2, ArrayKind::Zero),
+        ("{ 0,2;1,1}", 3, ArrayKind::Zero),
+        ("{3,2;0,1}", 6, ArrayKind::Zero),
+        ("{3,2;1, 0}", 9, ArrayKind::Zero),
+        ("{4096,1;1,1}", 5, ArrayKind::Large),
+        ("{10000,1;1,1}", 6, ArrayKind::Large),
+        ("{3,9999;1,1}", 7, ArrayKind::Large),
+        ("{3,2;1,40950}", 12, ArrayKind::Large),
+        ("{1,1,1,1,1,1,1,1,1,1,1,1,1;1}", 25, ArrayKind::Long),
+        ("{1,1,1,1,1,1,1,1,1,1,1,1 ,1;1}", 26, ArrayKind::Long),
+        (
+            "{1,1,1,1,1,1,1,1,1,1,1,1;1,1,1,1,1,1,1,1,1,1,1,1,1}",
+            49,
+            ArrayKind::Lengths,
+        ),
+    ] {
+        assert!(rt; is_refused(text, at, kind), "{text}");
+    }
+    Ok(())
+}
+
+#[test]
+fn makes_arrays(rt: HostRuntime) -> Result<(), Fail> {
+    let array = Array::make(&[3, 2], &[1, 1]).expect(&rt, "an array");
+    assert_eq!(rt; array.d(), 2);
+    assert_eq!(rt; array.valency(), 3);
+    for (i, b, c, a) in [(0, 3, 0, 0), (1, 2, 1, 0), (2, 0, 1, 2)] {
+        assert_eq!(rt; array.b(i), b);
+        assert_eq!(rt; array.c(i), c);
+        assert_eq!(rt; array.a(i), a);
+    }
+    let negative = Array::make(&[3, 3], &[1, 1]).expect(&rt, "an array");
+    assert_eq!(rt; negative.a(1), -1);
+    assert!(rt; matches!(Array::make(&[3, 2], &[1, 1]), Some(same) if same == array));
+    assert!(rt; matches!(Array::make(&[3, 2], &[1, 2]), Some(other) if other != array));
+    assert!(rt; matches!(Array::make(&[4095; 12], &[4095; 12]), Some(_)));
+    for (b, c) in [
+        (&[3, 2][..], &[1][..]),
+        (&[][..], &[][..]),
+        (&[3, 0][..], &[1, 1][..]),
+        (&[4096, 2][..], &[1, 1][..]),
+        (&[3, 2][..], &[1, 4096][..]),
+        (&[1; 13][..], &[1; 13][..]),
+    ] {
+        assert!(rt; matches!(Array::make(b, c), None));
+    }
+    Ok(())
+}
+
+#[test]
+fn writes_arrays(rt: HostRuntime) -> Result<(), Fail> {
+    let mut out = Vec::new(rt.alloc());
+    Array::read(b" { 3 , 2 ; 1 , 1 } ")?.write_text(&mut out)?;
+    assert_eq!(rt; out.as_slice(), b"{3,2;1,1}".as_slice());
+    let one = Array::make(&[4095], &[10]).expect(&rt, "an array");
+    one.write_text(&mut out)?;
+    assert_eq!(rt; out.as_slice(), b"{3,2;1,1}{4095;10}".as_slice());
+    Ok(())
+}
+
+#[test]
+fn writes_claims(rt: HostRuntime) -> Result<(), Fail> {
+    let (i, j, h) = (2, 10, 255);
+    let (u, v, w) = (1, 2, 12);
+    for (claim, text, class) in [
+        (Claim::First, "first", Class::Counting),
+        (Claim::Degree { i }, "degree 2", Class::Counting),
+        (Claim::Order { i }, "order 2", Class::Counting),
+        (Claim::Cross { i, j }, "cross 2 10", Class::Counting),
+        (Claim::Size { i }, "size 2", Class::Counting),
+        (
+            Claim::Intersect { h, i, j },
+            "intersect 255 2 10",
+            Class::Counting,
+        ),
+        (Claim::Handshake { i }, "handshake 2", Class::Counting),
+        (Claim::Induced { i, j }, "induced 2 10", Class::Counting),
+        (Claim::Triangles { i }, "triangles 2", Class::Counting),
+        (Claim::Mult { i }, "mult 2", Class::Spectral),
+        (Claim::Krein { i, j, h }, "krein 2 10 255", Class::Spectral),
+        (Claim::Absolute { i, j }, "absolute 2 10", Class::Spectral),
+        (Claim::Triple { u, v, w }, "triple 1 2 12", Class::Counting),
+        (
+            Claim::Ktriple { u, v, w },
+            "ktriple 1 2 12",
+            Class::Spectral,
+        ),
+    ] {
+        let mut out = Vec::new(rt.alloc());
+        claim.write_text(&mut out)?;
+        assert_eq!(rt; out.as_slice(), text.as_bytes());
+        assert_eq!(rt; claim.class(), class);
+        let mut name = Vec::new(rt.alloc());
+        claim.test().write_text(&mut name)?;
+        assert!(rt; text.as_bytes().starts_with(name.as_slice()), "{text}");
+    }
+    Ok(())
+}
+
+#[test]
+fn writes_nodes(rt: HostRuntime) -> Result<(), Fail> {
+    let (i, j, h, r) = (1, 0, 12, 2);
+    let (u, v, w) = (1, 2, 3);
+    for (node, text) in [
+        (Node::K { i: 11 }, "k 11"),
+        (Node::N, "n"),
+        (Node::P { h, i, j }, "p 12 1 0"),
+        (Node::Poly { j: 13 }, "poly 13"),
+        (Node::Linear { r: -4095 }, "linear -4095"),
+        (Node::Quadratic { s: -1, t: 5 }, "quadratic -1 5"),
+        (Node::U { i, r }, "u 1 2"),
+        (Node::M { i }, "m 1"),
+        (Node::Prow { i, r }, "prow 1 2"),
+        (Node::Qrow { r, i }, "qrow 2 1"),
+        (Node::Rec { i, j }, "rec 1 0"),
+        (Node::Pq { i, j }, "pq 1 0"),
+        (Node::Krein { i, j, h }, "krein 1 0 12"),
+        (Node::Kprod { i, j, r }, "kprod 1 0 2"),
+        (Node::Sign { i, j, h }, "sign 1 0 12"),
+        (Node::Absolute { i, j }, "absolute 1 0"),
+        (
+            Node::Eq {
+                u,
+                v,
+                w,
+                a: 3,
+                x: 1,
+                y: 4,
+            },
+            "eq 1 2 3 3 1 4",
+        ),
+        (
+            Node::Keq {
+                u,
+                v,
+                w,
+                i,
+                j: 5,
+                h,
+            },
+            "keq 1 2 3 1 5 12",
+        ),
+    ] {
+        let mut out = Vec::new(rt.alloc());
+        node.write_text(&mut out)?;
+        assert_eq!(rt; out.as_slice(), text.as_bytes());
+    }
+    Ok(())
+}
+
+#[test]
+fn reads_lists_of_tests(rt: HostRuntime) -> Result<(), Fail> {
+    let set = TestSet::read("none").expect(&rt, "a list of tests");
+    for test in [
+        Test::First,
+        Test::Degree,
+        Test::Order,
+        Test::Cross,
+        Test::Size,
+        Test::Intersect,
+    ] {
+        assert!(rt; set.has(test));
+        assert!(rt; TestSet::all().has(test));
+    }
+    assert!(rt; !set.has(Test::Handshake));
+    for text in [
+        "",
+        ",",
+        "first",
+        "none,none",
+        "None",
+        "none ",
+        "mult,mult",
+        "mult, triple",
+        "handshake,",
+    ] {
+        assert!(rt; TestSet::read(text).is_none(), "{text}");
+    }
+    Ok(())
+}
+
+/// A table of whole numbers with room for diameter 3.
+type Rows = [[i64; 4]; 4];
+
+fn b(array: &Array, i: usize) -> i64 {
+    if i <= array.d() {
+        i64::from(array.b(i))
+    } else {
+        0
+    }
+}
+
+fn c(array: &Array, i: usize) -> i64 {
+    if i <= array.d() {
+        i64::from(array.c(i))
+    } else {
+        0
+    }
+}
+
+fn a(array: &Array, i: usize) -> i64 {
+    b(array, 0)
+        .wrapping_sub(b(array, i))
+        .wrapping_sub(c(array, i))
+}
+
+fn entry(rows: &Rows, i: usize, j: usize) -> i64 {
+    rows.get(i).and_then(|row| row.get(j)).copied().unwrap_or(0)
+}
+
+/// The sizes of an array of diameter at most 3 whose sizes are whole, from `k_0 = 1` on.
+fn sizes(array: &Array) -> [i64; 4] {
+    let mut sizes: [i64; 4] = [1, 0, 0, 0];
+    for i in 0..3usize {
+        let edges = sizes[i].wrapping_mul(b(array, i));
+        sizes[i + 1] = edges.checked_div(c(array, i + 1)).unwrap_or(0);
+    }
+    sizes
+}
+
+/// The intersection numbers with upper index h of an array of diameter at most 3 whose numbers are
+/// whole, row by row from row 0, by the recurrence.
+fn intersection_numbers(array: &Array, h: usize) -> Rows {
+    let mut rows: Rows = [[0; 4]; 4];
+    for j in 0..4usize {
+        rows[0][j] = i64::from(j == h);
+    }
+    for i in 0..3usize {
+        for j in 0..4usize {
+            let nearer = if j > 0 {
+                b(array, j - 1).wrapping_mul(entry(&rows, i, j - 1))
+            } else {
+                0
+            };
+            let same = a(array, j).wrapping_mul(entry(&rows, i, j));
+            let further = c(array, j + 1).wrapping_mul(entry(&rows, i, j + 1));
+            let earlier = if i > 0 {
+                b(array, i - 1).wrapping_mul(entry(&rows, i - 1, j))
+            } else {
+                0
+            };
+            let here = a(array, i).wrapping_mul(entry(&rows, i, j));
+            let sum = nearer.wrapping_add(same).wrapping_add(further);
+            let rest = sum.wrapping_sub(earlier).wrapping_sub(here);
+            rows[i + 1][j] = rest.checked_div(c(array, i + 1)).unwrap_or(0);
+        }
+    }
+    rows
+}
+
+/// Petersen graph, pentagon, cube and octahedron: sizes, then intersection numbers, counted by hand.
+#[test]
+fn numbers_of_small_graphs(rt: HostRuntime) -> Result<(), Fail> {
+    let petersen = Array::read(b"{3,2;1,1}")?;
+    assert_eq!(rt; sizes(&petersen), [1, 3, 6, 0]);
+    let one = intersection_numbers(&petersen, 1);
+    let two = intersection_numbers(&petersen, 2);
+    assert_eq!(rt; entry(&one, 1, 1), 0);
+    assert_eq!(rt; entry(&one, 1, 2), 2);
+    assert_eq!(rt; entry(&one, 2, 2), 4);
+    assert_eq!(rt; entry(&two, 1, 1), 1);
+    assert_eq!(rt; entry(&two, 1, 2), 2);
+    assert_eq!(rt; entry(&two, 2, 2), 3);
+
+    let pentagon = Array::read(b"{2,1;1,1}")?;
+    assert_eq!(rt; sizes(&pentagon), [1, 2, 2, 0]);
+    assert_eq!(rt; entry(&intersection_numbers(&pentagon, 1), 2, 2), 1);
+    assert_eq!(rt; entry(&intersection_numbers(&pentagon, 2), 2, 2), 0);
+
+    let cube = Array::read(b"{3,2,1;1,2,3}")?;
+    assert_eq!(rt; sizes(&cube), [1, 3, 3, 1]);
+    assert_eq!(rt; entry(&intersection_numbers(&cube, 2), 1, 1), 2);
+    assert_eq!(rt; entry(&intersection_numbers(&cube, 2), 2, 2), 2);
+    assert_eq!(rt; entry(&intersection_numbers(&cube, 3), 2, 1), 3);
+    assert_eq!(rt; entry(&intersection_numbers(&cube, 1), 2, 3), 1);
+
+    let octahedron = Array::read(b"{4,1;1,4}")?;
+    assert_eq!(rt; sizes(&octahedron), [1, 4, 1, 0]);
+    assert_eq!(rt; entry(&intersection_numbers(&octahedron, 1), 1, 1), 2);
+    assert_eq!(rt; entry(&intersection_numbers(&octahedron, 2), 1, 1), 4);
+    Ok(())
+}
