@@ -1,0 +1,13 @@
+pub mod Walks
+pub mod Distances
+pub mod Regular
+pub mod DistanceLaws
+pub mod Sizes
+pub mod SizeLaws
+pub mod Balance
+pub mod Rows
+pub mod RowLaws
+pub mod ParityLaws
+pub mod Rationals
+pub mod NumberLaws
+pub mod Witness

@@ -1,0 +1,53 @@
+-- A test of what belongs to an array, and graphs that pass it: so there are graphs that are distance-regular.
+use Rattle.std.specs.Prelude.{ℕ, zero, suc, Bool, true, not, ◌==◌, ◌&&◌, ◌||◌, List, [], ◌∷◌, IsTrue}
+use Rattle.std.specs.List.{list_any}
+use Rattle.drg_algebra.specs.Sums.{below, AreDistinct}
+use Rattle.drg_array.specs.Entries.{Entries, diameter, b_at, c_at}
+use Rattle.drg_graph.specs.Graph.{Graph, is_at_distance, HasDistance, neighbours_at, IsDistanceRegular}
+
+abbrev pub all_of : (ℕ → Bool) → List ℕ → Bool
+all_of test [] = true
+all_of test (x ∷ xs) = test x && all_of test xs
+
+-- x and y have a distance, which is at most d
+abbrev pub is_near : Graph → Entries → ℕ → ℕ → Bool
+is_near g a x y = list_any (λ t. is_at_distance g t x y) (below (suc (diameter a)))
+
+-- c_i of the neighbours of y are nearer to x
+abbrev pub nearer_right : Graph → Entries → ℕ → ℕ → ℕ → Bool
+nearer_right g a x y zero = true
+nearer_right g a x y (suc i) = neighbours_at g i x y == c_at a (suc i)
+
+-- where i is the distance of x and y, b_i of the neighbours of y are further from x, and c_i nearer
+abbrev pub is_right : Graph → Entries → ℕ → ℕ → ℕ → Bool
+is_right g a x y i = not (is_at_distance g i x y) || (neighbours_at g (suc i) x y == b_at a i && nearer_right g a x y i)
+
+abbrev pub is_regular : Graph → Entries → Bool
+is_regular g a = all_of (λ x. all_of (λ y. is_near g a x y && all_of (is_right g a x y) (below (suc (diameter a)))) g.vertices) g.vertices
+
+-- a graph that passes the test, with vertices x and y at distance d, belongs to the array
+abbrev pub CheckLaw : Type 0
+CheckLaw =
+    (g : Graph) (a : Entries) (x y : ℕ) → AreDistinct g.vertices → HasDistance g (diameter a) x y → IsTrue (is_regular g a) → IsDistanceRegular g a
+
+abbrev pub petersen : Graph
+petersen =
+    record {
+      vertices = 0 ∷ 1 ∷ 2 ∷ 3 ∷ 4 ∷ 5 ∷ 6 ∷ 7 ∷ 8 ∷ 9 ∷ [];
+      pairs = (0, 1) ∷ (1, 2) ∷ (2, 3) ∷ (3, 4) ∷ (4, 0) ∷ (0, 5) ∷ (1, 6) ∷ (2, 7) ∷ (3, 8) ∷ (4, 9) ∷ (5, 7) ∷ (6, 8) ∷ (7, 9) ∷ (8, 5) ∷ (9, 6) ∷ [];
+    }
+
+abbrev pub heptagon : Graph
+heptagon =
+    record {
+      vertices = 0 ∷ 1 ∷ 2 ∷ 3 ∷ 4 ∷ 5 ∷ 6 ∷ [];
+      pairs = (0, 1) ∷ (1, 2) ∷ (2, 3) ∷ (3, 4) ∷ (4, 5) ∷ (5, 6) ∷ (6, 0) ∷ [];
+    }
+
+-- {3,2;1,1}
+abbrev pub PetersenLaw : Type 0
+PetersenLaw = IsDistanceRegular petersen (record { b = 3 ∷ 2 ∷ []; c = 1 ∷ 1 ∷ [] })
+
+-- {2,1,1;1,1,1}
+abbrev pub HeptagonLaw : Type 0
+HeptagonLaw = IsDistanceRegular heptagon (record { b = 2 ∷ 1 ∷ 1 ∷ []; c = 1 ∷ 1 ∷ 1 ∷ [] })
