@@ -1,0 +1,12 @@
+//! The feasibility tests on an intersection array that need counts alone. Each call gives the first
+//! failing claim of its tests, by their order and then by the lexicographic order of the indices, and
+//! None exactly where no claim of them fails. The order of claims is defined in specs/ClaimOrder.antt,
+//! and what it is to fail a claim in drg_array.
+#![tactic(auto)]
+
+mod entries;
+
+pub use entries::basic;
+
+#[cfg(test)]
+mod tests;
