@@ -1,0 +1,14 @@
+mod OptionLaws
+mod IntegerLaws
+mod IntegerSteps
+mod WordLaws
+mod HeaderLaws
+mod WrittenLaws
+mod PlaceLaws
+mod TextLaws
+mod HandsLaws
+mod DecimalLaws
+mod Injective
+mod Prefixes
+mod TextFacts
+mod EvidenceLaws

@@ -1,0 +1,6 @@
+use Rattle.std.proofs.Common.{◌≡◌, ◌++◌, take}
+use Rattle.drg_derivation.specs.Integers.{integers_text}
+use Rattle.drg_derivation.proofs.write.write_numbers.Given as goal
+
+abbrev pub invariant-numbers : goal.invariant-numbers
+invariant-numbers l = l.out.items ≡ l.initial.out.items ++ integers_text (take l.number-index l.numbers)

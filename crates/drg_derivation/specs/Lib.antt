@@ -1,0 +1,10 @@
+pub mod Integers
+pub mod Lines
+pub mod Written
+pub mod Content
+pub mod Text
+pub mod Reading
+pub mod Places
+pub mod Header
+pub mod Faults
+pub mod Laws
