@@ -1,0 +1,6 @@
+pub mod ProgressLaws
+pub mod ResidueLaws
+pub mod StepLaws
+pub mod SizeLaws
+pub mod RowLaws
+pub mod Soundness

@@ -1,0 +1,47 @@
+-- What the tests say that a met line has passed.
+use Rattle.std.proofs.Common.{◌≡◌, ℕ, ◌<◌, ◌≤◌, Bool, true, false, List, [], ◌∷◌, Ok, refl, arith, inl, inr}
+use Rattle.std.specs.Prelude.{ℤ, ◌<ℤ◌, ◌&&◌, ◌||◌, not, ◌⊎◌, nat_le, nat_lt, nat_eq, int_lt}
+use Rattle.std.specs.Ordering.{int_eq}
+use Rattle.std.proofs.lemmas.Bool.Decides.{nat_tests, Decides-int_eq}
+use Rattle.std.proofs.lemmas.Int.{ints}
+use Rattle.drg_replay.specs.Steps.{Step, Holds, Fits, first_failure, EachHolds}
+
+pub each_holds : (steps : List Step) → first_failure steps ≡ Ok tt → EachHolds steps
+each_holds [] h = tt
+each_holds (Holds true ∷ steps) h = (refl, each_holds steps h)
+each_holds (Holds false ∷ steps) h = cc
+each_holds (Fits true ∷ steps) h = (refl, each_holds steps h)
+each_holds (Fits false ∷ steps) h = cc
+
+pub both : (a b : Bool) → (a && b) ≡ true → (a ≡ true) × (b ≡ true)
+both true b h = (refl, h)
+both false b h = cc
+
+pub either : (a b : Bool) → (a || b) ≡ true → (a ≡ true) ⊎ (b ≡ true)
+either true b h = inl refl
+either false b h = inr h
+
+pub not_met : (a : Bool) → not a ≡ true → a ≡ true → ⊥
+not_met true h e = cc
+not_met false h e = cc
+
+pub at_most : (a b : ℕ) → nat_le a b ≡ true → a ≤ b
+at_most a b h = grind (arith, nat_tests)
+
+pub is_less : (a b : ℕ) → nat_lt a b ≡ true → a < b
+is_less a b h = grind (arith, nat_tests)
+
+pub not_at_most : (a b : ℕ) → not (nat_le a b) ≡ true → b < a
+not_at_most a b h = grind (arith, nat_tests)
+
+pub is_same : (a b : ℕ) → nat_eq a b ≡ true → a ≡ b
+is_same a b h = grind (arith, nat_tests)
+
+pub are_same : (a b : ℕ) → a ≡ b → nat_eq a b ≡ true
+are_same a b h = grind (arith, nat_tests)
+
+pub is_whole_same : (x y : ℤ) → int_eq x y ≡ true → x ≡ y
+is_whole_same x y h = (Decides-int_eq x y).0 h
+
+pub is_whole_less : (x y : ℤ) → int_lt x y ≡ true → x <ℤ y
+is_whole_less x y h = omega (arith, ints)

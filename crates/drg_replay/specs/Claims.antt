@@ -1,0 +1,91 @@
+-- What a claim asks: at its line, that its indices are in the range of its test; and at the end, that it is closed.
+use Rattle.std.specs.Prelude.{ℕ, suc, ◌+◌, ◌-◌, nat_eq, nat_lt, nat_le, ℤ, pos, int_lt, ◌*ℤ◌, Bool, true, false, ◌&&◌, ◌||◌, not, List, [], ◌∷◌, length, Option}
+use Rattle.drg_array.specs.Entries.{Entries, diameter, b_at, c_at, a_at}
+use Rattle.drg_array.specs.declared.claim.Claim.{Claim}
+use Rattle.drg_array.specs.declared.claim.Claim.TheVariants.{First, Degree, Order, Cross, Size, Intersect, Handshake, Induced, Triangles, Mult, Krein, Absolute, Triple, Ktriple}
+use Rattle.drg_replay.specs.Known.{KnownContent}
+use Rattle.drg_replay.specs.Steps.{Step, Holds, Fits}
+use Rattle.drg_replay.specs.Work.{in_range, sum_of, sum_fits}
+use Rattle.drg_replay.specs.Residues.{divides}
+use Rattle.drg_replay.specs.Sizes.{values_of, size_at, is_full, vertex_count}
+use Rattle.drg_replay.specs.Rows.{rows_at, row_stands, entry, balance}
+
+-- from 1 to d
+abbrev pub is_distance : Entries → ℕ → Bool
+is_distance a i = nat_le 1 i && nat_le i (diameter a)
+
+-- the indices lie in the range of the test; no rule is built yet for the claims below triangles, so none of them is met
+abbrev pub claim_is_met : Entries → Claim → Bool
+claim_is_met a First = true
+claim_is_met a (Degree i) = is_distance a i
+claim_is_met a (Order i) = nat_le 1 i && nat_lt i (diameter a)
+claim_is_met a (Cross i j) = nat_le 1 i && nat_le (i + j) (diameter a)
+claim_is_met a (Size i) = is_distance a i
+claim_is_met a (Intersect h i j) = nat_le h (diameter a) && nat_le i (diameter a) && nat_le j (diameter a)
+claim_is_met a (Handshake i) = is_distance a i
+claim_is_met a (Induced i j) = is_distance a i && is_distance a j
+claim_is_met a (Triangles i) = is_distance a i
+claim_is_met a (Mult i) = false
+claim_is_met a (Krein i j h) = false
+claim_is_met a (Absolute i j) = false
+claim_is_met a (Triple u v w) = false
+claim_is_met a (Ktriple u v w) = false
+
+-- c_i doesn't divide v_(i-1) b_(i-1)
+abbrev pub size_closing : Entries → Option (List ℤ) → ℕ → List Step
+size_closing a sizes i =
+    Holds (nat_le i (length (values_of sizes)))
+    ∷ Fits (in_range (size_at sizes (i - 1) *ℤ pos (b_at a (i - 1))))
+    ∷ Holds (not (divides (c_at a i) (size_at sizes (i - 1) *ℤ pos (b_at a (i - 1)))))
+    ∷ []
+
+-- N(h,i,j) is negative, or c_i doesn't divide it
+abbrev pub intersect_closing : Entries → ℕ → List (List ℤ) → ℕ → ℕ → List Step
+intersect_closing a h rows i j =
+    Holds (nat_le 1 i)
+    ∷ Holds (row_stands rows (i - 1))
+    ∷ Fits (sum_fits (balance a h rows (i - 1) j))
+    ∷ Holds (int_lt (sum_of (balance a h rows (i - 1) j)) (pos 0) || not (divides (c_at a i) (sum_of (balance a h rows (i - 1) j))))
+    ∷ []
+
+-- The conditions on parity go by residues, so they make no work number.
+
+-- n k_i is odd
+abbrev pub handshake_closing : Entries → Option (List ℤ) → ℕ → List Step
+handshake_closing a sizes i =
+    Holds (is_full a sizes)
+    ∷ Holds (not (divides 2 (vertex_count sizes *ℤ size_at sizes i)))
+    ∷ []
+
+-- k_i p^i_ij is odd
+abbrev pub induced_closing : Entries → Option (List ℤ) → List (List ℤ) → ℕ → ℕ → List Step
+induced_closing a sizes rows i j =
+    Holds (is_full a sizes)
+    ∷ Holds (row_stands rows i)
+    ∷ Holds (not (divides 2 (size_at sizes i *ℤ entry i rows i j)))
+    ∷ []
+
+-- 6 doesn't divide n k_i p^i_ii
+abbrev pub triangles_closing : Entries → Option (List ℤ) → List (List ℤ) → ℕ → List Step
+triangles_closing a sizes rows i =
+    Holds (is_full a sizes)
+    ∷ Holds (row_stands rows i)
+    ∷ Holds (not (divides 6 (vertex_count sizes *ℤ size_at sizes i *ℤ entry i rows i i)))
+    ∷ []
+
+-- what the end asks for
+abbrev pub closing_steps : Entries → Claim → KnownContent → List Step
+closing_steps a First k = Holds (not (nat_eq (c_at a 1) 1)) ∷ []
+closing_steps a (Degree i) k = Holds (int_lt (a_at a i) (pos 0)) ∷ []
+closing_steps a (Order i) k = Holds (nat_lt (b_at a i) (b_at a (suc i)) || nat_lt (c_at a (suc i)) (c_at a i)) ∷ []
+closing_steps a (Cross i j) k = Holds (nat_lt (b_at a j) (c_at a i)) ∷ []
+closing_steps a (Size i) k = size_closing a k.sizes i
+closing_steps a (Intersect h i j) k = intersect_closing a h (rows_at k.rows h) i j
+closing_steps a (Handshake i) k = handshake_closing a k.sizes i
+closing_steps a (Induced i j) k = induced_closing a k.sizes (rows_at k.rows i) i j
+closing_steps a (Triangles i) k = triangles_closing a k.sizes (rows_at k.rows i) i
+closing_steps a (Mult i) k = Holds false ∷ []
+closing_steps a (Krein i j h) k = Holds false ∷ []
+closing_steps a (Absolute i j) k = Holds false ∷ []
+closing_steps a (Triple u v w) k = Holds false ∷ []
+closing_steps a (Ktriple u v w) k = Holds false ∷ []

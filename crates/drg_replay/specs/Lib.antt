@@ -1,0 +1,11 @@
+pub mod Answers
+pub mod Claims
+pub mod Known
+pub mod Lines
+pub mod Residues
+pub mod Rows
+pub mod Sizes
+pub mod Soundness
+pub mod StandsFor
+pub mod Steps
+pub mod Work

@@ -1,0 +1,116 @@
+//! What a claim asks: at its line and at the end.
+ghost use Rattle.std.specs.Prelude.{◌≡◌, ◌≤◌, true};
+ghost use Rattle.drg_array.specs.Entries.{diameter};
+ghost use Rattle.drg_replay.specs.Steps.{first_failure};
+ghost use Rattle.drg_replay.specs.Claims.{claim_is_met as the_claim_is_met, is_distance as the_is_distance, size_closing, intersect_closing, closing_steps};
+
+use crate::known::Known;
+use crate::parity::{check_handshake, check_induced, check_triangles, divides};
+use crate::refusal::{Refusal, met_where};
+use crate::rows::{balance_of, row_stands};
+use crate::sizes::{size_at, values_of};
+use crate::work::{sum_of, times_entry};
+use drg_array::{Array, Claim};
+use drg_derivation::Numbers;
+
+/// Whether i is from 1 to d.
+fn is_distance(array: &Array, i: u8) -> bool
+    ensures { result ≡ the_is_distance array.now i }
+{
+    1 <= i && usize::from(i) <= array.d()
+}
+
+/// Whether the indices of the claim lie in the range of its test.
+pub fn claim_is_met(array: &Array, claim: Claim) -> bool
+    ensures { result ≡ the_claim_is_met array.now claim }
+{
+    let d = array.d();
+    match claim {
+        Claim::First => true,
+        Claim::Degree { i } => is_distance(array, i),
+        Claim::Order { i } => 1 <= i && usize::from(i) < d,
+        Claim::Cross { i, j } => 1 <= i && usize::from(i) + usize::from(j) <= d,
+        Claim::Size { i } => is_distance(array, i),
+        Claim::Intersect { h, i, j } => {
+            usize::from(h) <= d && usize::from(i) <= d && usize::from(j) <= d
+        }
+        Claim::Handshake { i } => is_distance(array, i),
+        Claim::Induced { i, j } => is_distance(array, i) && is_distance(array, j),
+        Claim::Triangles { i } => is_distance(array, i),
+        Claim::Mult { .. }
+        | Claim::Krein { .. }
+        | Claim::Absolute { .. }
+        | Claim::Triple { .. }
+        | Claim::Ktriple { .. } => false,
+    }
+}
+
+/// Whether `size i` is closed.
+fn check_size(array: &Array, sizes: &Option<Numbers>, i: usize) -> Result<(), Refusal>
+    requires low { 1 ≤ i }
+    requires high { i ≤ diameter array.now }
+    ensures { result ≡ first_failure (size_closing array.now sizes.now i) }
+{
+    let _ = array.d();
+    if values_of(sizes).len() < i {
+        return Err(Refusal::NotMet);
+    }
+    let product = times_entry(size_at(sizes, i - 1), array.b(i - 1))?;
+    met_where(!divides(array.c(i), product))
+}
+
+/// Whether `intersect h i j` is closed.
+fn check_intersect(
+    array: &Array,
+    h: usize,
+    rows: &[Numbers],
+    i: usize,
+    j: usize,
+) -> Result<(), Refusal>
+    requires i { i ≤ diameter array.now }
+    requires j { j ≤ diameter array.now }
+    ensures { result ≡ first_failure (intersect_closing array.now h rows.now i j) }
+{
+    let _ = array.d();
+    if i == 0 || !row_stands(rows, i - 1) {
+        return Err(Refusal::NotMet);
+    }
+    let numerator = sum_of(&balance_of(array, h, rows, i - 1, j))?;
+    met_where(numerator < 0 || !divides(array.c(i), numerator))
+}
+
+/// Whether the claim is closed by what is known at the end.
+pub fn check_closing(array: &Array, claim: Claim, known: &Known) -> Result<(), Refusal>
+    requires { the_claim_is_met array.now claim ≡ true }
+    ensures { result ≡ first_failure (closing_steps array.now claim known.now) }
+{
+    let _ = array.d();
+    match claim {
+        Claim::First => met_where(array.c(1) != 1),
+        Claim::Degree { i } => met_where(array.a(usize::from(i)) < 0),
+        Claim::Order { i } => {
+            let i = usize::from(i);
+            met_where(array.b(i) < array.b(i + 1) || array.c(i + 1) < array.c(i))
+        }
+        Claim::Cross { i, j } => { met_where(array.b(usize::from(j)) < array.c(usize::from(i))) }
+        Claim::Size { i } => check_size(array, known.sizes(), usize::from(i)),
+        Claim::Intersect { h, i, j } => {
+            let h = usize::from(h);
+            check_intersect(array, h, known.rows_at(h), usize::from(i), usize::from(j))
+        }
+        Claim::Handshake { i } => check_handshake(array, known.sizes(), usize::from(i)),
+        Claim::Induced { i, j } => {
+            let i = usize::from(i);
+            check_induced(array, known.sizes(), known.rows_at(i), i, usize::from(j))
+        }
+        Claim::Triangles { i } => {
+            let i = usize::from(i);
+            check_triangles(array, known.sizes(), known.rows_at(i), i)
+        }
+        Claim::Mult { .. }
+        | Claim::Krein { .. }
+        | Claim::Absolute { .. }
+        | Claim::Triple { .. }
+        | Claim::Ktriple { .. } => Err(Refusal::NotMet),
+    }
+}

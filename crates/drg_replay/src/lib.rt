@@ -1,0 +1,28 @@
+//! Judges a derivation by its written lines alone, without the tables and searches that found it.
+//!
+//! The answer of a derivation is a definition on the list of its lines (specs/Answers.antt): a line is
+//! met, or not, by a list of conditions on what the lines before it make known (specs/Lines.antt), and
+//! the first line that decides gives the answer. `replay` gives exactly that answer. A derivation that
+//! is accepted with the class Counting excludes every graph (specs/Soundness.antt).
+//!
+//! The rules that are built are those of the claims first, degree, order, cross, size, intersect,
+//! handshake, induced and triangles and of the lines `k` and `p`. No other claim or line is met yet.
+#![tactic(auto)]
+
+mod answer;
+mod claims;
+mod known;
+mod laws;
+mod parity;
+mod refusal;
+mod replayer;
+mod rows;
+mod sizes;
+mod work;
+
+pub use answer::ReplayFault;
+pub use laws::graph_law;
+pub use replayer::replay;
+
+#[cfg(test)]
+mod tests;

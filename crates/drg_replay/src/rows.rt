@@ -1,0 +1,203 @@
+//! The `p` lines.
+ghost use Rattle.std.specs.Prelude.{◌≡◌, ◌≤◌, ◌<◌, ◌+◌, suc, neg_ℤ, length, slice_index_or, pos};
+ghost use Rattle.drg_array.specs.Entries.{diameter, c_at, a_at};
+ghost use Rattle.drg_replay.specs.Steps.{first_failure};
+ghost use Rattle.drg_replay.specs.Rows.{entry as the_entry, entry_before as the_entry_before, entry_above as the_entry_above, row_stands as the_row_stands, balance, cell_steps, cells_from, row_steps, of_factors, b_before as the_b_before};
+
+use crate::refusal::Refusal;
+use crate::work::{Product, sum_of, times};
+use drg_array::Array;
+use drg_derivation::Numbers;
+
+/// Whether row i stands among the rows of an upper index. Row 0 is given.
+pub fn row_stands(rows: &[Numbers], i: usize) -> bool
+    ensures { result ≡ the_row_stands rows.now i }
+{
+    i <= rows.len()
+}
+
+/// The number at place j, and 0 past the end.
+pub fn number_at(numbers: &[i128], j: usize) -> i128
+    ensures { result ≡ slice_index_or numbers.now j (pos 0) }
+{
+    if j < numbers.len() { numbers[j] } else { 0 }
+}
+
+/// `p^h_ij` as the rows of h state it.
+pub fn entry(h: usize, rows: &[Numbers], i: usize, j: usize) -> i128
+    ensures { result ≡ the_entry h rows.now i j }
+{
+    if i == 0 {
+        return if j == h { 1 } else { 0 };
+    }
+    if i <= rows.len() {
+        number_at(rows[i - 1].as_slice(), j)
+    } else {
+        0
+    }
+}
+
+/// The entry one place before, and 0 where there is none.
+fn entry_before(h: usize, rows: &[Numbers], i: usize, j: usize) -> i128
+    ensures { result ≡ the_entry_before h rows.now i j }
+{
+    if j == 0 { 0 } else { entry(h, rows, i, j - 1) }
+}
+
+/// The entry one row above, and 0 where there is none.
+fn entry_above(h: usize, rows: &[Numbers], i: usize, j: usize) -> i128
+    ensures { result ≡ the_entry_above h rows.now i j }
+{
+    if i == 0 { 0 } else { entry(h, rows, i - 1, j) }
+}
+
+/// `b_(j-1)`, and 0 for j = 0.
+fn b_before(array: &Array, j: usize) -> u16
+    requires { j ≤ diameter array.now }
+    ensures { result ≡ the_b_before array.now j }
+{
+    if j == 0 { 0 } else { array.b(j - 1) }
+}
+
+/// `c_(j+1)`, and 0 for j = d.
+fn c_after(array: &Array, j: usize) -> u16
+    requires { j ≤ diameter array.now }
+    ensures { result ≡ c_at array.now (suc j) }
+{
+    if j == array.d() { 0 } else { array.c(j + 1) }
+}
+
+/// `b_(j-1) p^h_(i,j-1)`.
+fn term_before(array: &Array, h: usize, rows: &[Numbers], i: usize, j: usize) -> Product
+    requires { j ≤ diameter array.now }
+    ensures { result ≡ of_factors (pos (the_b_before array.now j)) (the_entry_before h rows.now i j) }
+{
+    Product {
+        left: i128::from(b_before(array, j)),
+        right: entry_before(h, rows, i, j),
+    }
+}
+
+/// `a_j p^h_ij`.
+fn term_at(array: &Array, h: usize, rows: &[Numbers], i: usize, j: usize) -> Product
+    requires { j ≤ diameter array.now }
+    ensures { result ≡ of_factors (a_at array.now j) (the_entry h rows.now i j) }
+{
+    Product {
+        left: i128::from(array.a(j)),
+        right: entry(h, rows, i, j),
+    }
+}
+
+/// `c_(j+1) p^h_(i,j+1)`.
+fn term_after(array: &Array, h: usize, rows: &[Numbers], i: usize, j: usize) -> Product
+    requires { j ≤ diameter array.now }
+    ensures { result ≡ of_factors (pos (c_at array.now (suc j))) (the_entry h rows.now i (suc j)) }
+{
+    let _ = array.d();
+    Product {
+        left: i128::from(c_after(array, j)),
+        right: entry(h, rows, i, j + 1),
+    }
+}
+
+/// `-b_(i-1) p^h_(i-1,j)`.
+fn term_above(array: &Array, h: usize, rows: &[Numbers], i: usize, j: usize) -> Product
+    requires { i ≤ diameter array.now }
+    ensures { result ≡ of_factors (neg_ℤ (pos (the_b_before array.now i))) (the_entry_above h rows.now i j) }
+{
+    Product {
+        left: -i128::from(b_before(array, i)),
+        right: entry_above(h, rows, i, j),
+    }
+}
+
+/// `-a_i p^h_ij`.
+fn term_same(array: &Array, h: usize, rows: &[Numbers], i: usize, j: usize) -> Product
+    requires { i ≤ diameter array.now }
+    ensures { result ≡ of_factors (neg_ℤ (a_at array.now i)) (the_entry h rows.now i j) }
+{
+    Product {
+        left: -i128::from(array.a(i)),
+        right: entry(h, rows, i, j),
+    }
+}
+
+/// The terms of `N(h,i+1,j)`.
+#[tactic(auto, unfolding(crate::specs::Rows::balance))]
+pub fn balance_of(array: &Array, h: usize, rows: &[Numbers], i: usize, j: usize) -> [Product; 5]
+    requires j { j ≤ diameter array.now }
+    requires i { i < diameter array.now }
+    ensures { result ≡ balance array.now h rows.now i j }
+{
+    [
+        term_before(array, h, rows, i, j),
+        term_at(array, h, rows, i, j),
+        term_after(array, h, rows, i, j),
+        term_above(array, h, rows, i, j),
+        term_same(array, h, rows, i, j),
+    ]
+}
+
+/// Whether the balance equation holds for this number of row i+1.
+fn check_cell(
+    array: &Array,
+    h: usize,
+    rows: &[Numbers],
+    i: usize,
+    j: usize,
+    value: i128,
+) -> Result<(), Refusal>
+    requires j { j ≤ diameter array.now }
+    requires i { i < diameter array.now }
+    ensures { result ≡ first_failure (cell_steps array.now h rows.now i j value) }
+{
+    let _ = array.d();
+    let left = times(i128::from(array.c(i + 1)), value)?;
+    if left == sum_of(&balance_of(array, h, rows, i, j))? {
+        Ok(())
+    } else {
+        Err(Refusal::NotMet)
+    }
+}
+
+/// Whether the balance equation holds for these numbers of row i+1, from place j on.
+fn check_cells(
+    array: &Array,
+    h: usize,
+    rows: &[Numbers],
+    i: usize,
+    j: usize,
+    values: &[i128],
+) -> Result<(), Refusal>
+    requires j { j + length values.now ≡ diameter array.now + 1 }
+    requires i { i < diameter array.now }
+    ensures { result ≡ first_failure (cells_from array.now h rows.now i j values.now) }
+{
+    let _ = array.d();
+    match values.split_first() {
+        None => Ok(()),
+        Some((value, rest)) => {
+            check_cell(array, h, rows, i, j, *value)?;
+            check_cells(array, h, rows, i, j + 1, rest)
+        }
+    }
+}
+
+/// Whether row i+1 of h with these numbers is met after the rows of h.
+pub fn check_row(
+    array: &Array,
+    h: usize,
+    rows: &[Numbers],
+    i: usize,
+    values: &[i128],
+) -> Result<(), Refusal>
+    requires i { i < diameter array.now }
+    ensures { result ≡ first_failure (row_steps array.now h rows.now i values.now) }
+{
+    let d = array.d();
+    if row_stands(rows, i + 1) || !row_stands(rows, i) || values.len() != d + 1 {
+        return Err(Refusal::NotMet);
+    }
+    check_cells(array, h, rows, i, 0, values)
+}
