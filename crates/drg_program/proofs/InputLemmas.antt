@@ -1,0 +1,47 @@
+-- The bytes of a file, where they are told, and where they are not.
+use Rattle.std.proofs.Common.{◌≡◌, ℕ, ◌<◌, ◌+◌, ◌⊎◌, inl, inr, List, [], length, Option, Some, None, Result, Ok, Err, false, refl, sym, ap, subst, ◌∙◌, arith, length-append}
+use Rattle.std.proofs.lemmas.Bool.{true≢false}
+use Rattle.std.specs.Result.{is_err}
+use Rattle.std.specs.Io.KnownBytes.{Consumes}
+use Rattle.drg_outside.specs.Files.{File, IsMissing, Opens, content_of}
+use Rattle.drg_outside.specs.Whole.{TakesCount}
+use Rattle.drg_program.specs.Run.{IsTold, AreBytesOf}
+
+some-injective : (x y : List ℕ) → Some x ≡ Some y → x ≡ y
+some-injective x y e = cc
+
+-- a file has one content
+pub same_content : (files : List File) (name bytes : List ℕ) → content_of name files ≡ Some bytes → AreBytesOf (Some files) name bytes
+same_content files name bytes is told other = some-injective bytes told (sym is ∙ other)
+
+none≢some : (bytes : List ℕ) → None ≡ Some bytes → ⊥
+none≢some bytes e = cc
+
+-- a file that is told isn't missing, so the other cause holds
+pub told_is_there : (files : Option (List File)) (name bytes : List ℕ) (P : Type 0) → IsTold files name bytes → (P → ⊥) → P ⊎ IsMissing files name → ⊥
+told_is_there files name bytes P told never (inl cause) = never cause
+told_is_there None name bytes P told never (inr missing) = absurd told
+told_is_there (Some files) name bytes P told never (inr missing) = none≢some bytes (sym missing ∙ told)
+
+-- there are bytes that the file has if it is told
+pub some_bytes : (files : Option (List File)) (name : List ℕ) → (bytes : List ℕ) × AreBytesOf files name bytes
+some_bytes None name = ([], λ told is. absurd is)
+some_bytes (Some files) name = found (content_of name files) refl where
+  found : (content : Option (List ℕ)) → content_of name files ≡ content → (bytes : List ℕ) × AreBytesOf (Some files) name bytes
+  found None none = ([], λ told is. absurd (none≢some told (sym none ∙ is)))
+  found (Some bytes) is = (bytes, same_content files name bytes is)
+
+longer : (bytes taken : List ℕ) (new : Option (List ℕ)) (limit : ℕ) → Consumes (Some bytes) new taken → length taken ≡ limit + 1 → limit < length bytes
+longer bytes taken None limit consumed sized = absurd consumed
+longer bytes taken (Some rest) limit consumed sized =
+    let same : length bytes ≡ length taken + length rest = ap length consumed ∙ length-append taken rest in
+    omega arith
+
+-- from an opened file more bytes than the limit were taken
+pub long_input : {T E : Type 0} (files : Option (List File)) (left new : Option (List ℕ)) (name : List ℕ) (limit : ℕ) (result : Result T E)
+    → is_err result ≡ false → Opens files left name result → TakesCount left new (limit + 1)
+    → (bytes : List ℕ) × AreBytesOf files name bytes × (limit < length bytes)
+long_input None left new name limit result ok opens (taken, consumed, sized) = (taken, λ told is. absurd is, omega (arith, sized))
+long_input (Some files) left new name limit (Err e) ok opens taken = absurd (true≢false ok)
+long_input (Some files) left new name limit (Ok x) ok (bytes, is, held) (taken, consumed, sized) =
+    (bytes, same_content files name bytes is, longer bytes taken new limit (subst (λ (known : Option (List ℕ)). Consumes known new taken) held consumed) sized)

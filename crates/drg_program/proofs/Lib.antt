@@ -1,0 +1,4 @@
+mod CheckLemmas
+mod InputLemmas
+mod ReplayLemmas
+mod RunLemmas

@@ -1,0 +1,90 @@
+ghost use Rattle.std.specs.Prelude.{◌≡◌, ◌↔◌, IsTrue, Some};
+ghost use Rattle.drg_program.specs.Statuses.{IsRefusal, exit_of, status_text};
+
+use std::fmt;
+
+/// How a run ended.
+#[derive(Clone, Copy, Debug, PartialEq, Eq)]
+pub enum Status {
+    /// The array passes every test.
+    Survivor,
+    /// The array fails a test, and the report derives it.
+    Infeasible,
+    /// Each line of the derivation is met, and it closes its claim.
+    Accepted,
+    /// A line of the derivation isn't met, or its claim isn't closed at the end.
+    Rejected,
+    /// A work number of a line is too wide to judge the derivation.
+    Undecided,
+    /// The words are no command.
+    Usage,
+    /// The input isn't in the grammar. Line and place are counted from 1; place 0 is the whole line.
+    BadInput { line: u64, at: u64 },
+    /// The input has more than [`crate::INPUT_LIMIT`] bytes.
+    TooLong,
+    /// The file could not be opened.
+    OpenFault,
+    /// The file could not be read to its end.
+    ReadFault,
+    /// The report could not be written to its end.
+    WriteFault,
+    /// There was not enough memory.
+    Memory,
+}
+
+impl Status {
+    /// The number with which the program ends.
+    pub fn exit(self) -> u8
+        ensures { result ≡ exit_of self }
+    {
+        match self {
+            Status::Survivor => 0,
+            Status::Infeasible => 1,
+            Status::Accepted => 0,
+            Status::Rejected => 5,
+            Status::Undecided => 3,
+            Status::Usage => 64,
+            Status::BadInput { .. } => 65,
+            Status::TooLong => 66,
+            Status::OpenFault => 67,
+            Status::ReadFault => 68,
+            Status::WriteFault => 69,
+            Status::Memory => 71,
+        }
+    }
+
+    /// Whether the run ended without a whole report.
+    pub fn is_refusal(self) -> bool
+        ensures { IsTrue result ↔ IsRefusal self }
+    {
+        !matches!(
+            self,
+            Status::Survivor
+                | Status::Infeasible
+                | Status::Accepted
+                | Status::Rejected
+                | Status::Undecided
+        )
+    }
+}
+
+impl fmt::Display for Status {
+    ghost output = { λ status. Some (status_text status) };
+
+    fn fmt<W: fmt::Write>(&self, f: &mut fmt::Formatter<W>) -> fmt::Result {
+        match self {
+            Status::Survivor => f.write_str("survivor"),
+            Status::Infeasible => f.write_str("infeasible"),
+            Status::Accepted => f.write_str("accepted"),
+            Status::Rejected => f.write_str("rejected"),
+            Status::Undecided => f.write_str("undecided"),
+            Status::Usage => f.write_str("usage"),
+            Status::BadInput { line, at } => write!(f, "bad input, line {line}, place {at}"),
+            Status::TooLong => f.write_str("input too long"),
+            Status::OpenFault => f.write_str("cannot open"),
+            Status::ReadFault => f.write_str("cannot read"),
+            Status::WriteFault => f.write_str("cannot write"),
+            Status::Memory => f.write_str("no memory"),
+        }
+    }
+}

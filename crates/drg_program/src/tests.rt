@@ -1,0 +1,331 @@
+use crate::{INPUT_LIMIT, Status, run};
+use drg_outside::{MemInputs, MemSink};
+use std::alloc::Global;
+use std::test::Fail;
+
+/// Room of each test's sink.
+const ROOM: usize = 1000;
+
+const DEGREE: &str = "drg 1\narray 2 3 3 1 1\nclaim degree 1\nend\n";
+
+/// A derivation of mult for `{4,3;1,1}`.
+const MULT: &str =
+    "drg 1\narray 2 4 3 1 1\nclaim mult 1\nk 1 4 12\nframe 13\ntheta 0 4 1 0 1\ntheta 1 -1 2 1 2\ntheta 2 -1 2 -1 2\nprow 0 1 1 0 1 4 1 0 1 12 1 0 1\nprow 1 1 1 0 1 -1 2 1 2 -1 2 -1 2\nprow 2 1 1 0 1 -1 2 -1 2 -1 2 1 2\nqrow 0 1 1 0 1 8 1 4 13 8 1 -4 13\nqrow 1 1 1 0 1 -1 2 25 26 -1 2 -25 26\nqrow 2 1 1 0 1 -1 2 -9 26 -1 2 9 26\nend\n";
+
+/// A derivation of krein for `{9,8;1,4}`.
+const KREIN: &str =
+    "drg 1\narray 2 9 8 1 4\nclaim krein 2 2 2\nk 1 9 18\nframe 0\ntheta 0 9 1\ntheta 1 1 1\ntheta 2 -5 1\nprow 0 1 1 9 1 18 1\nprow 1 1 1 1 1 -2 1\nprow 2 1 1 -5 1 4 1\nqrow 0 1 1 21 1 6 1\nqrow 1 1 1 7 3 -10 3\nqrow 2 1 1 -7 3 4 3\nkrein 2 2 6 1 14 9 -4 9\nend\n";
+
+/// A derivation of triple for `{6,4;1,4}`.
+const TRIPLE: &str =
+    "drg 1\narray 2 6 4 1 4\nclaim triple 1 1 1\np 1 1 1 1 4\np 1 2 0 4 2\neq 1 1 2\nmiss 0\nend\n";
+
+/// One run over a file `f`: what it answers, and what it has written.
+fn run_on(
+    alloc: Global,
+    words: &[&str],
+    content: &[u8],
+    fails: (&[u64], &[u64]),
+) -> Result<(Status, MemSink), Fail> {
+    let mut list = Vec::new(alloc);
+    for word in words {
+        list.push(word.to_string(alloc)?)?;
+    }
+    let files = vec![in alloc; ("f".to_string(alloc)?, content.to_vec(alloc)?)]?;
+    let mut inputs = MemInputs::new(files, 7, fails.0.to_vec(alloc)?);
+    let mut sink = MemSink::new(alloc, ROOM, 16, fails.1.to_vec(alloc)?)?;
+    let status = run(alloc, &list, &mut inputs, &mut sink);
+    Ok((status, sink))
+}
+
+#[test]
+fn reports_of_small_arrays(rt: HostRuntime) -> Result<(), Fail> {
+    let alloc = rt.alloc();
+    let bad = |at| Status::BadInput { line: 1, at };
+    let cases = [
+        (
+            "{3,3;1,1}\n",
+            Status::Infeasible,
+            "drg 1\narray 2 3 3 1 1\nclaim degree 1\nend\nverdict infeasible degree 1 counting\n",
+        ),
+        (
+            "{3,2;2,1}\n",
+            Status::Infeasible,
+            "drg 1\narray 2 3 2 2 1\nclaim first\nend\nverdict infeasible first counting\n",
+        ),
+        (
+            "{4,1,2;1,1,1}\n",
+            Status::Infeasible,
+            "drg 1\narray 3 4 1 2 1 1 1\nclaim order 1\nend\nverdict infeasible order 1 counting\n",
+        ),
+        (
+            "{6,2,1;1,3,3}\n",
+            Status::Infeasible,
+            "drg 1\narray 3 6 2 1 1 3 3\nclaim cross 2 1\nend\nverdict infeasible cross 2 1 counting\n",
+        ),
+        (
+            "{3,2;1,1}\r\n",
+            Status::Survivor,
+            "verdict survivor\narray {3,2;1,1}\npassed first degree order cross\n",
+        ),
+        (
+            "{3;1}",
+            Status::Survivor,
+            "verdict survivor\narray {3;1}\npassed first degree order cross\n",
+        ),
+        (
+            " { 3, 2; 1, 1 } \n",
+            Status::Survivor,
+            "verdict survivor\narray {3,2;1,1}\npassed first degree order cross\n",
+        ),
+        ("{3,2;1,1}\n\n", bad(10), ""),
+        ("{3,2;1,1}\r", bad(10), ""),
+        ("", bad(1), ""),
+        ("\n", bad(1), ""),
+        ("{3,2;1}\n", bad(7), ""),
+        ("{}\n", bad(2), ""),
+        ("{3,0;1,1}\n", bad(4), ""),
+        ("{03,2;1,1}\n", bad(2), ""),
+        ("{4096,1;1,1}\n", bad(5), ""),
+    ];
+    for (content, status, written) in cases {
+        let (answer, sink) = run_on(alloc, &["check", "f"], content.as_bytes(), (&[], &[]))?;
+        assert_eq!(rt; answer, status, "{content:?}");
+        assert_eq!(rt; sink.written(), written.as_bytes(), "{content:?}");
+    }
+    Ok(())
+}
+
+#[test]
+fn reports_are_accepted(rt: HostRuntime) -> Result<(), Fail> {
+    let alloc = rt.alloc();
+    let cases = [
+        ("{3,2;2,1}\n", "accepted first counting\n"),
+        ("{3,3;1,1}\n", "accepted degree 1 counting\n"),
+        ("{4,1,2;1,1,1}\n", "accepted order 1 counting\n"),
+        ("{6,2,1;1,3,3}\n", "accepted cross 2 1 counting\n"),
+    ];
+    for (content, line) in cases {
+        let (status, report) = run_on(alloc, &["check", "f"], content.as_bytes(), (&[], &[]))?;
+        assert_eq!(rt; status, Status::Infeasible, "{content:?}");
+        let (answer, sink) = run_on(alloc, &["replay", "f"], report.written(), (&[], &[]))?;
+        assert_eq!(rt; answer, Status::Accepted, "{content:?}");
+        assert_eq!(rt; sink.written(), line.as_bytes(), "{content:?}");
+    }
+    Ok(())
+}
+
+#[test]
+fn answers_to_derivations(rt: HostRuntime) -> Result<(), Fail> {
+    let alloc = rt.alloc();
+    let cases = [
+        (
+            "drg 1\narray 2 3 3 1 1\nclaim degree 2\nend\n",
+            Status::Rejected,
+            "rejected open 4\n",
+        ),
+        (
+            "drg 1\narray 2 3 3 1 1\nclaim degree 3\nend\n",
+            Status::Rejected,
+            "rejected line 3\n",
+        ),
+        // Petersen's graph has none of these faults.
+        (
+            "drg 1\narray 2 3 2 1 1\nclaim first\nend\n",
+            Status::Rejected,
+            "rejected open 4\n",
+        ),
+        (
+            "drg 1\narray 2 3 2 1 1\nclaim first\nk 1 3 6\nend\n",
+            Status::Rejected,
+            "rejected open 5\n",
+        ),
+        (
+            "drg 1\narray 2 3 3 1 1\nclaim degree 1\nk 1 3 8\nend\n",
+            Status::Rejected,
+            "rejected line 4\n",
+        ),
+        // 5·4 isn't divisible by 3.
+        (
+            "drg 1\narray 2 5 4 1 3\nclaim size 2\nk 1 5\nend\n",
+            Status::Accepted,
+            "accepted size 2 counting\n",
+        ),
+        // The double of 2^126 is 2^127.
+        (
+            "drg 1\narray 2 4 1 2 2\nclaim first\nk 1 85070591730234615865843651857942052864\nend\n",
+            Status::Undecided,
+            "undecided wide 4\n",
+        ),
+        (MULT, Status::Rejected, "rejected line 3\n"),
+        (KREIN, Status::Rejected, "rejected line 3\n"),
+        (TRIPLE, Status::Rejected, "rejected line 3\n"),
+    ];
+    for (content, status, written) in cases {
+        let (answer, sink) = run_on(alloc, &["replay", "f"], content.as_bytes(), (&[], &[]))?;
+        assert_eq!(rt; answer, status, "{content:?}");
+        assert_eq!(rt; sink.written(), written.as_bytes(), "{content:?}");
+    }
+    Ok(())
+}
+
+#[test]
+fn texts_that_are_no_derivation(rt: HostRuntime) -> Result<(), Fail> {
+    let alloc = rt.alloc();
+    let cases = [
+        ("", 1),
+        ("drg 1", 1),
+        ("drg 2\narray 2 3 3 1 1\nclaim degree 1\nend\n", 1),
+        ("drg 1\r\narray 2 3 3 1 1\r\nclaim degree 1\r\nend\r\n", 1),
+        ("drg 1\narray 2 3 3 1\nclaim degree 1\nend\n", 2),
+        ("drg 1\narray 2 3 3 1 1\nclaim  degree 1\nend\n", 3),
+        ("drg 1\narray 2 3 3 1 1\nclaim degree 1\n", 4),
+        ("drg 1\narray 2 3 3 1 1\nclaim degree 1\nend", 4),
+        // The text is looked at before the claim, which line 3 doesn't meet.
+        ("drg 1\narray 2 3 3 1 1\nclaim degree 3\nk 1 3\nk\nend\n", 5),
+        ("{3,3;1,1}\n", 1),
+    ];
+    for (content, line) in cases {
+        let (answer, sink) = run_on(alloc, &["replay", "f"], content.as_bytes(), (&[], &[]))?;
+        assert_eq!(rt; answer, Status::BadInput { line, at: 0 }, "{content:?}");
+        assert!(rt; sink.written().is_empty(), "{content:?}");
+    }
+    Ok(())
+}
+
+#[test]
+fn bytes_after_a_derivation(rt: HostRuntime) -> Result<(), Fail> {
+    let alloc = rt.alloc();
+    let mut content = DEGREE.as_bytes().to_vec(alloc)?;
+    content.extend_from_slice(&[255; 1000])?;
+    let (answer, sink) = run_on(alloc, &["replay", "f"], &content, (&[], &[]))?;
+    assert_eq!(rt; answer, Status::Accepted);
+    assert_eq!(rt; sink.written(), "accepted degree 1 counting\n".as_bytes());
+    Ok(())
+}
+
+#[test]
+fn calls_that_fail(rt: HostRuntime) -> Result<(), Fail> {
+    let alloc = rt.alloc();
+    let cases: [(&str, &[u64], &[u64], Status, &str, &str); 6] = [
+        ("f", &[1], &[], Status::OpenFault, "", ""),
+        ("g", &[], &[], Status::OpenFault, "", ""),
+        ("f", &[2], &[], Status::ReadFault, "", ""),
+        ("f", &[3], &[], Status::ReadFault, "", ""),
+        ("f", &[], &[1], Status::WriteFault, "", ""),
+        (
+            "f",
+            &[],
+            &[2],
+            Status::WriteFault,
+            "verdict survivor",
+            "accepted degree ",
+        ),
+    ];
+    for (name, inputs, writes, status, checked, replayed) in cases {
+        for (command, content, written) in [
+            ("check", "{3,2;1,1}\n", checked),
+            ("replay", DEGREE, replayed),
+        ] {
+            let words = [command, name];
+            let (answer, sink) = run_on(alloc, &words, content.as_bytes(), (inputs, writes))?;
+            assert_eq!(rt; answer, status, "{words:?} {inputs:?} {writes:?}");
+            assert_eq!(rt;
+                sink.written(),
+                written.as_bytes(),
+                "{words:?} {inputs:?} {writes:?}"
+            );
+        }
+    }
+    Ok(())
+}
+
+#[test]
+fn words_that_are_no_command(rt: HostRuntime) -> Result<(), Fail> {
+    let alloc = rt.alloc();
+    let cases: [&[&str]; 17] = [
+        &[],
+        &[""],
+        &["check"],
+        &["chekc", "f"],
+        &["Check", "f"],
+        &["check", "-x"],
+        &["check", "-"],
+        &["check", "f", "f"],
+        &["check", "--json", "f"],
+        &["replay"],
+        &["replay", "-x"],
+        &["replay", "f", "f"],
+        &["Replay", "f"],
+        &["table", "f"],
+        &["sample", "1", "1"],
+        &["--help"],
+        &["f"],
+    ];
+    for words in cases {
+        let (answer, sink) = run_on(alloc, words, b"{3,2;1,1}\n", (&[], &[]))?;
+        assert_eq!(rt; answer, Status::Usage, "{words:?}");
+        assert!(rt; sink.written().is_empty(), "{words:?}");
+    }
+    Ok(())
+}
+
+/// The status of a command on so many spaces.
+fn status_on_spaces(alloc: Global, command: &str, length: usize) -> Result<Status, Fail> {
+    let words = vec![in alloc; command.to_string(alloc)?, "f".to_string(alloc)?]?;
+    let files = vec![in alloc; ("f".to_string(alloc)?, vec![in alloc; b' '; length]?)]?;
+    let mut inputs = MemInputs::new(files, 65_536, Vec::new(alloc));
+    let mut sink = MemSink::new(alloc, ROOM, 16, Vec::new(alloc))?;
+    Ok(run(alloc, &words, &mut inputs, &mut sink))
+}
+
+#[test]
+fn the_longest_input(rt: HostRuntime) -> Result<(), Fail> {
+    let status = status_on_spaces(rt.alloc(), "check", INPUT_LIMIT)?;
+    let at = INPUT_LIMIT as u64 + 1;
+    assert_eq!(rt; status, Status::BadInput { line: 1, at });
+    Ok(())
+}
+
+#[test]
+fn an_array_past_the_limit(rt: HostRuntime) -> Result<(), Fail> {
+    let status = status_on_spaces(rt.alloc(), "check", INPUT_LIMIT + 1)?;
+    assert_eq!(rt; status, Status::TooLong);
+    Ok(())
+}
+
+#[test]
+fn a_derivation_past_the_limit(rt: HostRuntime) -> Result<(), Fail> {
+    let status = status_on_spaces(rt.alloc(), "replay", INPUT_LIMIT + 1)?;
+    assert_eq!(rt; status, Status::TooLong);
+    Ok(())
+}
+
+#[test]
+fn lines_and_exit_numbers(rt: HostRuntime) -> Result<(), Fail> {
+    let alloc = rt.alloc();
+    let cases = [
+        (Status::Survivor, 0, "survivor"),
+        (Status::Infeasible, 1, "infeasible"),
+        (Status::Accepted, 0, "accepted"),
+        (Status::Rejected, 5, "rejected"),
+        (Status::Undecided, 3, "undecided"),
+        (Status::Usage, 64, "usage"),
+        (
+            Status::BadInput { line: 12, at: 7 },
+            65,
+            "bad input, line 12, place 7",
+        ),
+        (Status::TooLong, 66, "input too long"),
+        (Status::OpenFault, 67, "cannot open"),
+        (Status::ReadFault, 68, "cannot read"),
+        (Status::WriteFault, 69, "cannot write"),
+        (Status::Memory, 71, "no memory"),
+    ];
+    for (status, exit, text) in cases {
+        assert_eq!(rt; status.exit(), exit, "{text}");
+        assert_eq!(rt; status.to_string(alloc)?.as_str(), text);
+        assert_eq!(rt; status.is_refusal(), exit >= 64, "{text}");
+    }
+    Ok(())
+}

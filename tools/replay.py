@@ -1,0 +1,520 @@
+#!/usr/bin/env python3
+"""An independent judge of derivations.
+
+Written from docs/derivation-format.md alone. It is a second witness next to
+`drg replay`: it shares no code with the product and is no part of it. Where
+the two give different answers for a file, one of them or the page is wrong.
+
+    python3 tools/replay.py FILE..
+
+prints one line for each FILE, in their order:
+
+    accepted CLAIM CLASS    every line is met and the claim is closed
+    rejected line L         line L is the first that isn't met
+    rejected open L         every line is met, but the claim isn't closed
+    undecided wide L        a work number of line L passes 2^127-1
+    bad input, line L       line L isn't what may stand in its place
+    cannot read             the file can't be read (the reason is on stderr)
+
+Exit status of one file: 0 accepted, 5 rejected, 3 undecided, 65 bad input,
+66 cannot read. Of several files: 0 where all are accepted, else 1.
+Without a FILE: 64.
+
+A file is read to its `end` line before it is judged, so a text that isn't a
+derivation is bad input even where a line further up wouldn't be met.
+
+To extend it: a new line of evidence is an entry in EVIDENCE and, once it is
+judged, a method in Judge and an entry in LINE_RULES. A claim is an entry in
+CLAIMS and, once it is judged, two methods and an entry in CLAIM_RULES.
+"""
+
+import re
+import sys
+from typing import Callable, Container, Dict, List, NamedTuple, Optional, Tuple
+
+BOUND = 2**127 - 1
+MAX_DIAMETER = 12
+MAX_ENTRY = 4095
+MAX_CLAIM_NUMBER = 255
+
+NUMBER = re.compile(rb"0|-?[1-9][0-9]*")
+MAX_NUMBER_BYTES = len(str(-BOUND))
+
+EXIT_ACCEPTED = 0
+EXIT_SOME_NOT_ACCEPTED = 1
+EXIT_UNDECIDED = 3
+EXIT_REJECTED = 5
+EXIT_USAGE = 64
+EXIT_BAD_INPUT = 65
+EXIT_CANNOT_READ = 66
+
+
+class NotANumber(Exception):
+    """Bytes that aren't a number of the format."""
+
+
+class BadInput(Exception):
+    """The text isn't a derivation; `line` is the first line that is wrong."""
+
+    def __init__(self, line: int) -> None:
+        super().__init__(line)
+        self.line = line
+
+
+class Wide(Exception):
+    """A work number passes the bound."""
+
+
+class Answer(NamedTuple):
+    """What is printed for a file, and its exit status."""
+
+    text: str
+    status: int
+
+
+class Array(NamedTuple):
+    """An array with all of b_0 .. b_d and c_0 .. c_d (b_d = c_0 = 0)."""
+
+    d: int
+    b: List[int]
+    c: List[int]
+
+    def a(self, i: int) -> int:
+        return self.b[0] - self.b[i] - self.c[i]
+
+
+class Claim(NamedTuple):
+    """The name of a test and that test's numbers."""
+
+    name: str
+    numbers: List[int]
+
+    def __str__(self) -> str:
+        return " ".join([self.name] + [str(x) for x in self.numbers])
+
+
+class Line(NamedTuple):
+    """A line of evidence."""
+
+    word: str
+    numbers: List[int]
+
+
+class Derivation(NamedTuple):
+    """A text of the right form. `evidence` begins at line 4."""
+
+    array: Array
+    claim: Claim
+    evidence: List[Line]
+
+
+FIRST_EVIDENCE_LINE = 4
+
+
+# ---------------------------------------------------------------------------
+# The text
+# ---------------------------------------------------------------------------
+
+
+class Shape(NamedTuple):
+    """What the length of a line of evidence may depend on."""
+
+    d: int  # the diameter
+    field: int  # how many numbers a field number has: F of the page
+    first: int  # the first number of the line, 0 where it has none
+
+
+Count = Tuple[int, int]  # least and most; (1, 0) where no count is right
+
+
+def exactly(count: int) -> Count:
+    return (count, count)
+
+
+def comb_count(shape: Shape) -> Count:
+    return exactly(1 + 2 * shape.first) if shape.first >= 1 else (1, 0)
+
+
+# Each line of evidence: its word, and how many numbers it has.
+EVIDENCE: Dict[str, Callable[[Shape], Count]] = {
+    "k": lambda s: (1, s.d + 1),
+    "p": lambda s: exactly(s.d + 3),
+    "frame": lambda s: exactly(1),
+    "theta": lambda s: exactly(1 + s.field),
+    "prow": lambda s: exactly(1 + s.field * (s.d + 1)),
+    "qrow": lambda s: exactly(1 + s.field * (s.d + 1)),
+    "krein": lambda s: exactly(2 + s.field * (s.d + 1)),
+    "eq": lambda s: exactly(3),
+    "keq": lambda s: exactly(4),
+    "comb": comb_count,
+    "low": lambda s: exactly(5),
+    "high": lambda s: exactly(5),
+    "split": lambda s: exactly(4),
+    "miss": lambda s: exactly(1),
+    "mod": lambda s: exactly(2),
+    "void": lambda s: exactly(3),
+}
+
+# Each claim: the name of its test, and how many numbers it has.
+CLAIMS: Dict[str, int] = {
+    "first": 0,
+    "degree": 1,
+    "order": 1,
+    "cross": 2,
+    "size": 1,
+    "intersect": 3,
+    "handshake": 1,
+    "induced": 2,
+    "triangles": 1,
+    "mult": 1,
+    "krein": 3,
+    "absolute": 2,
+    "triple": 3,
+    "ktriple": 3,
+}
+
+
+def read_number(token: bytes) -> int:
+    """The number that `token` writes; NotANumber where it writes none."""
+    if len(token) > MAX_NUMBER_BYTES or not NUMBER.fullmatch(token):
+        raise NotANumber
+    value = int(token)
+    if abs(value) > BOUND:
+        raise NotANumber
+    return value
+
+
+def read_numbers(tokens: List[bytes], line: int) -> List[int]:
+    try:
+        return [read_number(token) for token in tokens]
+    except NotANumber:
+        raise BadInput(line) from None
+
+
+def find_word(token: bytes, table: Container[str], line: int) -> str:
+    """The word of `table` that `token` is; BadInput where it is none."""
+    word = token.decode("latin-1")
+    if word not in table:
+        raise BadInput(line)
+    return word
+
+
+class Reader:
+    """Reads a derivation from bytes, up to the LF of its `end` line."""
+
+    def __init__(self, data: bytes) -> None:
+        self.data = data
+        self.at = 0  # where the next line begins
+        self.line = 0  # the number of the last line taken, from 1
+
+    def read(self) -> Derivation:
+        self.read_version()
+        array = self.read_array()
+        claim = self.read_claim()
+        return Derivation(array, claim, self.read_evidence(array.d))
+
+    def next_line(self) -> bytes:
+        """The next line without its LF; BadInput where there is no LF."""
+        self.line += 1
+        stop = self.data.find(b"\n", self.at)
+        if stop < 0:
+            raise BadInput(self.line)
+        text = self.data[self.at : stop]
+        self.at = stop + 1
+        return text
+
+    def read_version(self) -> None:
+        if self.next_line() != b"drg 1":
+            raise BadInput(self.line)
+
+    def read_array(self) -> Array:
+        tokens = self.next_line().split(b" ")
+        if tokens[0] != b"array":
+            raise BadInput(self.line)
+        numbers = read_numbers(tokens[1:], self.line)
+        if not numbers or not 1 <= numbers[0] <= MAX_DIAMETER:
+            raise BadInput(self.line)
+        d, entries = numbers[0], numbers[1:]
+        if len(entries) != 2 * d:
+            raise BadInput(self.line)
+        if not all(1 <= entry <= MAX_ENTRY for entry in entries):
+            raise BadInput(self.line)
+        return Array(d, entries[:d] + [0], [0] + entries[d:])
+
+    def read_claim(self) -> Claim:
+        tokens = self.next_line().split(b" ")
+        if len(tokens) < 2 or tokens[0] != b"claim":
+            raise BadInput(self.line)
+        name = find_word(tokens[1], CLAIMS, self.line)
+        numbers = read_numbers(tokens[2:], self.line)
+        if len(numbers) != CLAIMS[name]:
+            raise BadInput(self.line)
+        if not all(0 <= x <= MAX_CLAIM_NUMBER for x in numbers):
+            raise BadInput(self.line)
+        return Claim(name, numbers)
+
+    def read_evidence(self, d: int) -> List[Line]:
+        """The lines of evidence, and the `end` line after them."""
+        evidence: List[Line] = []
+        field = 2
+        while True:
+            text = self.next_line()
+            if text == b"end":
+                return evidence
+            line = self.read_evidence_line(text, d, field)
+            if line.word == "frame":
+                field = 2 if line.numbers[0] == 0 else 4
+            evidence.append(line)
+
+    def read_evidence_line(self, text: bytes, d: int, field: int) -> Line:
+        tokens = text.split(b" ")
+        word = find_word(tokens[0], EVIDENCE, self.line)
+        numbers = read_numbers(tokens[1:], self.line)
+        first = numbers[0] if numbers else 0
+        least, most = EVIDENCE[word](Shape(d, field, first))
+        if not least <= len(numbers) <= most:
+            raise BadInput(self.line)
+        return Line(word, numbers)
+
+
+# ---------------------------------------------------------------------------
+# Judging
+# ---------------------------------------------------------------------------
+
+
+def work(value: int) -> int:
+    """`value`, as a work number; Wide where it passes the bound."""
+    if abs(value) > BOUND:
+        raise Wide
+    return value
+
+
+class Judge:
+    """Judges one derivation. Holds what the lines met so far have shown."""
+
+    def __init__(self, derivation: Derivation) -> None:
+        self.array = derivation.array
+        self.claim = derivation.claim
+        self.evidence = derivation.evidence
+        self.sizes: Optional[List[int]] = None  # the k line
+        self.rows: Dict[Tuple[int, int], List[int]] = {}  # p lines, by (h, i)
+        self.spectral = False
+
+    def judge(self) -> Answer:
+        line = 3
+        try:
+            if not self.claim_met():
+                return Answer(f"rejected line {line}", EXIT_REJECTED)
+            for line, item in enumerate(self.evidence, FIRST_EVIDENCE_LINE):
+                if not self.line_met(item):
+                    return Answer(f"rejected line {line}", EXIT_REJECTED)
+            line = FIRST_EVIDENCE_LINE + len(self.evidence)
+            if not self.claim_closed():
+                return Answer(f"rejected open {line}", EXIT_REJECTED)
+        except Wide:
+            return Answer(f"undecided wide {line}", EXIT_UNDECIDED)
+        kind = "spectral" if self.spectral else "counting"
+        return Answer(f"accepted {self.claim} {kind}", EXIT_ACCEPTED)
+
+    def claim_met(self) -> bool:
+        if self.claim.name not in CLAIM_RULES:
+            return False  # not judged yet
+        in_range, _ = CLAIM_RULES[self.claim.name]
+        return in_range(self, *self.claim.numbers)
+
+    def line_met(self, line: Line) -> bool:
+        if line.word == "frame":
+            self.spectral = True
+        if line.word not in LINE_RULES:
+            return False  # not judged yet
+        return LINE_RULES[line.word](self, line.numbers)
+
+    def claim_closed(self) -> bool:
+        _, closed = CLAIM_RULES[self.claim.name]
+        return closed(self, *self.claim.numbers)
+
+    # What stands.
+
+    def row(self, h: int, i: int) -> Optional[List[int]]:
+        """Row i of h: p^h_(i,0) .. p^h_(i,d), or None. Row 0 always stands."""
+        if i == 0:
+            return [1 if j == h else 0 for j in range(self.array.d + 1)]
+        return self.rows.get((h, i))
+
+    def all_sizes(self) -> Optional[List[int]]:
+        """The k line where it has d+1 numbers, or None."""
+        if self.sizes is None or len(self.sizes) != self.array.d + 1:
+            return None
+        return self.sizes
+
+    def entry_times_c(self, h: int, i: int, j: int) -> int:
+        """N(h,i,j) of the page. Rows i-1 and i-2 (if i > 1) of h must stand."""
+        array = self.array
+        last = self.row(h, i - 1)
+        assert last is not None
+        terms: List[int] = []
+        if j >= 1:
+            terms.append(work(array.b[j - 1] * last[j - 1]))
+        terms.append(work(array.a(j) * last[j]))
+        if j + 1 <= array.d:
+            terms.append(work(array.c[j + 1] * last[j + 1]))
+        if i >= 2:
+            before = self.row(h, i - 2)
+            assert before is not None
+            terms.append(-work(array.b[i - 2] * before[j]))
+        terms.append(-work(array.a(i - 1) * last[j]))
+        total = 0
+        for term in terms:
+            total = work(total + term)
+        return total
+
+    # Lines of evidence.
+
+    def k_met(self, v: List[int]) -> bool:
+        if self.sizes is not None or v[0] != 1:
+            return False
+        b, c = self.array.b, self.array.c
+        for i in range(1, len(v)):
+            left = work(v[i] * c[i])
+            right = work(v[i - 1] * b[i - 1])
+            if left != right:
+                return False
+        self.sizes = v
+        return True
+
+    def p_met(self, numbers: List[int]) -> bool:
+        h, i, v = numbers[0], numbers[1], numbers[2:]
+        d = self.array.d
+        if not (0 <= h <= d and 1 <= i <= d):
+            return False
+        if self.row(h, i) is not None or self.row(h, i - 1) is None:
+            return False
+        for j in range(d + 1):
+            left = work(self.array.c[i] * v[j])
+            right = self.entry_times_c(h, i, j)
+            if left != right:
+                return False
+        self.rows[h, i] = v
+        return True
+
+    # Claims: the ranges of their numbers, and where they are closed.
+
+    def first_in_range(self) -> bool:
+        return True
+
+    def first_closed(self) -> bool:
+        return self.array.c[1] != 1
+
+    def one_to_d(self, i: int) -> bool:
+        """The range of degree, size, handshake and triangles."""
+        return 1 <= i <= self.array.d
+
+    def degree_closed(self, i: int) -> bool:
+        return self.array.a(i) < 0
+
+    def order_in_range(self, i: int) -> bool:
+        return 1 <= i <= self.array.d - 1
+
+    def order_closed(self, i: int) -> bool:
+        b, c = self.array.b, self.array.c
+        return b[i] < b[i + 1] or c[i] > c[i + 1]
+
+    def cross_in_range(self, i: int, j: int) -> bool:
+        return i >= 1 and i + j <= self.array.d
+
+    def cross_closed(self, i: int, j: int) -> bool:
+        return self.array.c[i] > self.array.b[j]
+
+    def size_closed(self, i: int) -> bool:
+        if self.sizes is None or len(self.sizes) < i:
+            return False
+        return work(self.sizes[i - 1] * self.array.b[i - 1]) % self.array.c[i] != 0
+
+    def intersect_in_range(self, h: int, i: int, j: int) -> bool:
+        return all(0 <= x <= self.array.d for x in (h, i, j))
+
+    def intersect_closed(self, h: int, i: int, j: int) -> bool:
+        if i < 1 or any(self.row(h, r) is None for r in range(1, i)):
+            return False
+        value = self.entry_times_c(h, i, j)
+        return value < 0 or value % self.array.c[i] != 0
+
+    def handshake_closed(self, i: int) -> bool:
+        k = self.all_sizes()
+        return k is not None and sum(k) * k[i] % 2 == 1
+
+    def induced_in_range(self, i: int, j: int) -> bool:
+        return 1 <= i <= self.array.d and 1 <= j <= self.array.d
+
+    def induced_closed(self, i: int, j: int) -> bool:
+        k, row = self.all_sizes(), self.row(i, i)
+        return k is not None and row is not None and k[i] * row[j] % 2 == 1
+
+    def triangles_closed(self, i: int) -> bool:
+        k, row = self.all_sizes(), self.row(i, i)
+        if k is None or row is None:
+            return False
+        return sum(k) * k[i] * row[i] % 6 != 0
+
+
+# Each line of evidence that is judged: where it is met.
+LINE_RULES: Dict[str, Callable[[Judge, List[int]], bool]] = {
+    "k": Judge.k_met,
+    "p": Judge.p_met,
+}
+
+# Each claim that is judged: where its line is met, and where it is closed.
+CLAIM_RULES: Dict[str, Tuple[Callable[..., bool], Callable[..., bool]]] = {
+    "first": (Judge.first_in_range, Judge.first_closed),
+    "degree": (Judge.one_to_d, Judge.degree_closed),
+    "order": (Judge.order_in_range, Judge.order_closed),
+    "cross": (Judge.cross_in_range, Judge.cross_closed),
+    "size": (Judge.one_to_d, Judge.size_closed),
+    "intersect": (Judge.intersect_in_range, Judge.intersect_closed),
+    "handshake": (Judge.one_to_d, Judge.handshake_closed),
+    "induced": (Judge.induced_in_range, Judge.induced_closed),
+    "triangles": (Judge.one_to_d, Judge.triangles_closed),
+}
+
+
+# ---------------------------------------------------------------------------
+# The command
+# ---------------------------------------------------------------------------
+
+
+def answer_bytes(data: bytes) -> Answer:
+    try:
+        derivation = Reader(data).read()
+    except BadInput as bad:
+        return Answer(f"bad input, line {bad.line}", EXIT_BAD_INPUT)
+    return Judge(derivation).judge()
+
+
+def answer_file(path: str) -> Answer:
+    try:
+        with open(path, "rb") as file:
+            data = file.read()
+    except OSError as error:
+        print(f"{path}: {error.strerror}", file=sys.stderr)
+        return Answer("cannot read", EXIT_CANNOT_READ)
+    return answer_bytes(data)
+
+
+def main(paths: List[str]) -> int:
+    if not paths:
+        print("usage: replay.py FILE..", file=sys.stderr)
+        return EXIT_USAGE
+    statuses: List[int] = []
+    for path in paths:
+        answer = answer_file(path)
+        print(answer.text)
+        statuses.append(answer.status)
+    if len(statuses) == 1:
+        return statuses[0]
+    if all(status == EXIT_ACCEPTED for status in statuses):
+        return EXIT_ACCEPTED
+    return EXIT_SOME_NOT_ACCEPTED
+
+
+if __name__ == "__main__":
+    sys.exit(main(sys.argv[1:]))
