@@ -1,12 +1,11 @@
 -- The bytes that begin an array text are those that a reader takes.
-use Rattle.std.proofs.Common.{◌≡◌, ℕ, zero, suc, ◌+◌, ◌-◌, ◌*◌, ◌≤◌, ◌<◌, Bool, true, false, List, [], ◌∷◌, ◌++◌, length, None, Some, Ok, Err, refl, sym, ap, subst, ◌∙◌, arith, append_assoc, length-append}
+use Rattle.std.proofs.Common.{◌≡◌, ℕ, zero, suc, ◌+◌, ◌-◌, ◌≤◌, ◌<◌, List, [], ◌∷◌, ◌++◌, length, None, Some, Ok, Err, refl, sym, ap, subst, ◌∙◌, arith, length-append}
 use Rattle.std.specs.Prelude.{Option}
-use Rattle.drg_array.specs.Entries.{Entries, IsArray}
 use Rattle.drg_array.specs.Text.{IsArrayText}
 use Rattle.drg_array.specs.Faults.{Begins, NumberIsDue}
 use Rattle.drg_array.specs.declared.fault.ArrayKind.{ArrayKind}
 use Rattle.drg_array.specs.Reading.{State, Brace, Number, Digit, Mark, End, start, step, most, IsSound}
-use Rattle.drg_array.proofs.Steps.{Marks, a_space, a_comma, a_semicolon, a_brace, Opens, before_it, it, Numbers, before_number, first_digit, Digits, one_more, no_more, marks, opens, numbers, digits, ends, sound}
+use Rattle.drg_array.proofs.Steps.{Marks, a_space, a_comma, a_semicolon, a_brace, before_it, it, before_number, first_digit, one_more, no_more, marks, opens, numbers, digits, ends}
 use Rattle.drg_array.proofs.Takes.{run, run-after, run-step, step-number, step-comma, step-brace, takes}
 use Rattle.drg_array.proofs.Prefixes.{reads, first_step, first_part}
 

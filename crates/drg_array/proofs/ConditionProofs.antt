@@ -4,11 +4,8 @@ use Rattle.std.specs.Prelude.{ℤ, pos, negsuc, ◌<ℤ◌, ◌≤ℤ◌, ◌==�
 use Rattle.std.proofs.lemmas.Int.{ints}
 use Rattle.std.proofs.lemmas.Bool.Decides.{nat_tests}
 use Rattle.drg_algebra.proofs.Tests.{decided}
-use Rattle.drg_array.specs.Entries.{Entries, b_at, c_at, a_at}
-use Rattle.drg_array.specs.Numbers.{IsWhole, IsWholeMultiple, IsNatural}
-use Rattle.drg_array.specs.Claims.{test_of}
-use Rattle.drg_array.specs.Conditions.{Holds, Fails}
-use Rattle.drg_array.specs.ConditionLaws.{IsArrayTest, FailsWhereFalse, HoldsWhereNoneFails}
+use Rattle.drg_array.specs.Entries.{b_at, c_at, a_at}
+use Rattle.drg_array.specs.ConditionLaws.{FailsWhereFalse, HoldsWhereNoneFails}
 use Rattle.drg_array.specs.declared.test.Test.TheVariants as test
 use Rattle.drg_array.specs.declared.claim.Claim.TheVariants.{First, Degree, Order, Cross, Size, Intersect, Handshake, Induced, Triangles, Mult, Krein, Absolute, Triple, Ktriple}
 use Rattle.drg_array.proofs.Told.{multiple_told, natural_told}

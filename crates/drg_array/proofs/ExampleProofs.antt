@@ -1,13 +1,13 @@
 -- The numbers of small arrays.
-use Rattle.std.proofs.Common.{◌≡◌, ℕ, zero, suc, ◌+◌, ◌*◌, ◌≤◌, ◌<◌, List, [], ◌∷◌, refl, sym, ap, ap₂, ◌∙◌, arith}
+use Rattle.std.proofs.Common.{◌≡◌, ℕ, zero, suc, ◌≤◌, ◌<◌, [], ◌∷◌, refl, sym, ap, ap₂, ◌∙◌, arith}
 use Rattle.std.specs.Prelude.{ℤ, pos, negsuc, ◌+ℤ◌, ◌-ℤ◌, ◌*ℤ◌, neg_ℤ, ◌==◌}
 use Rattle.drg_algebra.specs.Sums.{bit}
 use Rattle.std.proofs.lemmas.Int.{ints}
 use mathlib.Core.Quot.Quotient.{exact}
-use Rattle.drg_algebra.specs.Rational.{ℚ, pairs, cross_prop, whole, plus, times, minus, rationals}
+use Rattle.drg_algebra.specs.Rational.{ℚ, pairs, cross_prop, whole, plus, times, minus}
 use Rattle.drg_algebra.proofs.Maps.{whole_map}
-use Rattle.drg_array.specs.Entries.{Entries, diameter, b_at, c_at, a_at}
-use Rattle.drg_array.specs.Numbers.{size, vertex_count, before, numerator, AreIntersectionNumbers, IsIntersectionNumber, IsWhole, IsNatural}
+use Rattle.drg_array.specs.Entries.{Entries, b_at, c_at, a_at}
+use Rattle.drg_array.specs.Numbers.{size, before, numerator, AreIntersectionNumbers}
 use Rattle.drg_array.specs.Examples.{petersen, PetersenSizes, PetersenNumbers, SizeOfFiveFour, NumberOfFourOne}
 use Rattle.drg_array.proofs.NumberLaws.{share-back, cancel-whole}
 

@@ -1,15 +1,15 @@
 -- What a reader answers is the array of the text, or its fault.
-use Rattle.std.proofs.Common.{◌≡◌, ℕ, zero, suc, ◌+◌, ◌<◌, ◌⊎◌, inl, inr, List, [], ◌∷◌, ◌++◌, length, drop, get_or, None, Some, Ok, Err, refl, sym, ap, ap₂, subst, ◌∙◌, arith, append-nil}
+use Rattle.std.proofs.Common.{◌≡◌, ℕ, suc, ◌+◌, ◌<◌, ◌⊎◌, inl, inr, List, [], ◌∷◌, ◌++◌, length, drop, get_or, None, Some, Ok, Err, refl, sym, ap, ap₂, ◌∙◌, arith, append-nil}
 use Rattle.std.specs.Prelude.{Option, Result}
 use Rattle.std.proofs.Math.Seq.{drop-cons}
-use Rattle.drg_array.specs.Entries.{Entries, IsArray}
+use Rattle.drg_array.specs.Entries.{Entries}
 use Rattle.drg_array.specs.Text.{IsArrayText}
-use Rattle.drg_array.specs.Faults.{Begins, IsKind, IsFaultAtByte, IsFaultAtEnd, IsFault}
+use Rattle.drg_array.specs.Faults.{IsFaultAtByte, IsFaultAtEnd, IsFault}
 use Rattle.drg_array.specs.declared.fault.ArrayFault.{ArrayFault}
 use Rattle.drg_array.specs.declared.fault.ArrayKind.{ArrayKind}
 use Rattle.drg_array.specs.declared.fault.ArrayKind.TheVariants.{Syntax}
 use Rattle.drg_array.specs.Reading.{State, Brace, Number, Digit, Mark, End, Step, start, step, complete, at_end, follow, reading}
-use Rattle.drg_array.proofs.Takes.{run, then_run, run-after, run-step, takes}
+use Rattle.drg_array.proofs.Takes.{run, then_run, run-step, takes}
 use Rattle.drg_array.proofs.Begins.{array-read, begins, began, goes_on, stops}
 use Rattle.drg_array.proofs.KindLaws.{kind_is, kind_same}
 

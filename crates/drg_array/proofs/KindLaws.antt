@@ -1,20 +1,19 @@
 -- The kind of a fault, by the grammar, is the one with which a reader refuses the byte.
-use Rattle.std.proofs.Common.{◌≡◌, ℕ, zero, suc, ◌+◌, ◌-◌, ◌*◌, ◌≤◌, ◌<◌, Bool, true, false, ◌⊎◌, inl, inr, List, [], ◌∷◌, ◌++◌, length, take, drop, None, Some, Ok, Err, refl, sym, ap, subst, ◌∙◌, arith, append_assoc, append-nil, length-append, take-append-drop}
+use Rattle.std.proofs.Common.{◌≡◌, ℕ, suc, ◌+◌, ◌-◌, ◌*◌, ◌≤◌, ◌<◌, true, false, inl, inr, List, [], ◌∷◌, ◌++◌, length, take, drop, None, Some, Ok, Err, refl, sym, ap, subst, ◌∙◌, arith, append_assoc, append-nil, take-append-drop}
 use Rattle.std.proofs.Math.Seq.{drop-cons}
 use Rattle.std.proofs.lemmas.List.Elements.{Contains-append_right}
-use Rattle.std.specs.Prelude.{Option, cond, nat_lt, ◌==◌, Contains}
+use Rattle.std.specs.Prelude.{Option, nat_lt, ◌==◌, Contains}
 use Rattle.std.proofs.lemmas.Bool.Decides.{nat_tests}
-use Rattle.drg_array.specs.Entries.{Entries, diameter}
-use Rattle.drg_array.specs.Text.{spaces, IsDigit, IsNumber, AreNumbers, IsArrayText}
+use Rattle.drg_array.specs.Text.{spaces, IsDigit}
 use Rattle.drg_array.specs.Faults.{Begins, IsZero, IsLarge, IsLong, IsLengths, IsKind}
 use Rattle.drg_array.specs.declared.limits.TheConstants.{MAX_DIAMETER, MAX_ENTRY}
 use Rattle.drg_array.specs.declared.fault.ArrayKind.{ArrayKind}
 use Rattle.drg_array.specs.declared.fault.ArrayKind.TheVariants.{Syntax, Zero, Large, Lengths, Long}
 use Rattle.drg_array.specs.Reading.{State, Brace, Number, Digit, Mark, End, start, is_digit, comma, semicolon, brace, mark, step, most, IsSound}
-use Rattle.drg_array.proofs.Steps.{chosen, is_byte, in_digits, digit_test, Marks, a_space, a_comma, a_semicolon, a_brace, Numbers, before_number, first_digit, Digits, one_more, no_more, marks, numbers, digits, opens, Opens, before_it, it, ends, sound}
+use Rattle.drg_array.proofs.Steps.{chosen, is_byte, in_digits, digit_test, numbers, sound}
 use Rattle.drg_array.proofs.Takes.{run, run-after, run-step, run-number, step-comma, step-brace, takes}
-use Rattle.drg_array.proofs.Prefixes.{IsRead, Opened, finished, reads, first_step, first_part}
-use Rattle.drg_array.proofs.Begins.{viable, array-read, began, goes_on, took, number_due, due_number, first_of, keeps}
+use Rattle.drg_array.proofs.Prefixes.{IsRead, finished, reads, first_step, first_part}
+use Rattle.drg_array.proofs.Begins.{viable, array-read, began, goes_on, number_due, due_number, first_of, keeps}
 
 -- a number of this list has just been read
 pub data IsAfter (s : State) (b : Option (List ℕ)) (ns : List ℕ) : Type 0 where

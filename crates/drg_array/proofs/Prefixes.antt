@@ -1,11 +1,11 @@
 -- What was read is in the grammar.
-use Rattle.std.proofs.Common.{◌≡◌, ℕ, zero, suc, ◌+◌, ◌-◌, ◌*◌, ◌≤◌, ◌<◌, Bool, true, false, List, [], ◌∷◌, ◌++◌, length, None, Some, Ok, Err, refl, sym, ap, subst, ◌∙◌, arith, append_assoc, append-nil, length-append}
+use Rattle.std.proofs.Common.{◌≡◌, ℕ, zero, suc, ◌+◌, ◌-◌, ◌*◌, ◌≤◌, List, [], ◌∷◌, ◌++◌, None, Some, Ok, Err, refl, sym, ap, subst, ◌∙◌, arith, append_assoc, append-nil}
 use Rattle.std.specs.Prelude.{Option}
-use Rattle.drg_array.specs.Entries.{Entries, IsArray}
+use Rattle.drg_array.specs.Entries.{IsArray}
 use Rattle.drg_array.specs.Text.{spaces, IsDigit, IsNumberFrom, IsNumber, AreMore, AreNumbers, IsArrayText}
-use Rattle.drg_array.specs.declared.limits.TheConstants.{MAX_DIAMETER, MAX_ENTRY}
+use Rattle.drg_array.specs.declared.limits.TheConstants.{MAX_ENTRY}
 use Rattle.drg_array.specs.Reading.{State, Brace, Number, Digit, Mark, End, Step, start, step, IsSound}
-use Rattle.drg_array.proofs.Steps.{Marks, a_space, a_comma, a_semicolon, a_brace, Opens, before_it, it, Numbers, before_number, first_digit, Digits, one_more, no_more, marks, opens, numbers, digits, ends, sound}
+use Rattle.drg_array.proofs.Steps.{Marks, a_space, a_comma, a_semicolon, a_brace, before_it, it, before_number, first_digit, one_more, no_more, marks, opens, numbers, digits, ends, sound}
 use Rattle.drg_array.proofs.Takes.{run, then_run, run-append, run-after, run-step}
 
 -- the bytes up to the list in hand, with t of this list

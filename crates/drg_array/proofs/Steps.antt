@@ -1,14 +1,12 @@
 -- Which bytes a reader takes where it stands, and which it refuses.
-use Rattle.std.proofs.Common.{◌≡◌, ℕ, ◌+◌, ◌-◌, ◌*◌, ◌≤◌, ◌<◌, Bool, true, false, ◌⊎◌, inl, inr, List, [], ◌∷◌, ◌++◌, length, None, Some, Ok, Err, refl, sym, ap, ap₂, subst, ◌∙◌, arith, length-append}
-use Rattle.std.specs.Prelude.{Option, cond, nat_lt, ◌==◌, ◌&&◌}
+use Rattle.std.proofs.Common.{◌≡◌, ℕ, ◌+◌, ◌-◌, ◌*◌, ◌≤◌, ◌<◌, Bool, true, false, ◌⊎◌, inl, inr, List, [], ◌∷◌, ◌++◌, length, None, Some, Ok, refl, sym, ap, ap₂, subst, ◌∙◌, arith, length-append}
+use Rattle.std.specs.Prelude.{Option, cond, nat_lt, ◌==◌}
 use Rattle.std.specs.List.{AllByRecursion}
 use Rattle.std.proofs.lemmas.Bool.Decides.{nat_tests}
-use Rattle.drg_array.specs.Entries.{IsEntry, Entries, IsArray}
+use Rattle.drg_array.specs.Entries.{IsEntry}
 use Rattle.drg_array.specs.Text.{IsDigit}
 use Rattle.drg_array.specs.declared.limits.TheConstants.{MAX_DIAMETER, MAX_ENTRY}
-use Rattle.drg_array.specs.declared.fault.ArrayKind.{ArrayKind}
-use Rattle.drg_array.specs.declared.fault.ArrayKind.TheVariants.{Syntax, Zero, Large, Lengths, Long}
-use Rattle.drg_array.specs.Reading.{State, Brace, Number, Digit, Mark, End, Step, is_digit, comma, semicolon, brace, mark, digit, step, most, IsFirstList, IsSound}
+use Rattle.drg_array.specs.Reading.{State, Brace, Number, Digit, Mark, End, is_digit, comma, semicolon, brace, mark, step, most, IsFirstList, IsSound}
 
 -- which way a test went
 pub chosen : {A : Type 0} (b : Bool) (x y z : A) → cond b x y ≡ z → ((b ≡ true) × (x ≡ z)) ⊎ ((b ≡ false) × (y ≡ z))

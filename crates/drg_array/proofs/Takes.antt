@@ -1,12 +1,11 @@
 -- What is in the grammar is read.
-use Rattle.std.proofs.Common.{◌≡◌, ℕ, zero, suc, ◌+◌, ◌-◌, ◌*◌, ◌≤◌, ◌<◌, Bool, true, false, List, [], ◌∷◌, ◌++◌, length, None, Some, Ok, Err, refl, sym, ap, subst, ◌∙◌, arith, append_assoc, append-nil, length-append}
-use Rattle.std.specs.Prelude.{Option, cond, nat_lt, ◌==◌}
+use Rattle.std.proofs.Common.{◌≡◌, ℕ, zero, suc, ◌+◌, ◌-◌, ◌*◌, ◌≤◌, ◌<◌, true, false, List, [], ◌∷◌, ◌++◌, length, None, Some, Ok, Err, refl, sym, ap, ◌∙◌, arith, append_assoc, append-nil, length-append}
+use Rattle.std.specs.Prelude.{Option, nat_lt, ◌==◌}
 use Rattle.std.proofs.lemmas.Bool.Decides.{nat_tests}
-use Rattle.drg_array.specs.Entries.{Entries, IsArray}
+use Rattle.drg_array.specs.Entries.{Entries}
 use Rattle.drg_array.specs.Text.{spaces, IsDigit, IsNumberFrom, IsNumber, AreMore, AreNumbers, IsArrayText}
 use Rattle.drg_array.specs.declared.limits.TheConstants.{MAX_DIAMETER, MAX_ENTRY}
-use Rattle.drg_array.specs.declared.fault.ArrayKind.{ArrayKind}
-use Rattle.drg_array.specs.Reading.{State, start, Brace, Number, Digit, Mark, End, Step, is_digit, comma, mark, digit, step, most, follow}
+use Rattle.drg_array.specs.Reading.{State, start, Number, Digit, Mark, End, Step, is_digit, step, most, follow}
 use Rattle.drg_array.proofs.Steps.{digit_test}
 
 -- where the bytes take the reader

@@ -24,6 +24,10 @@ test_name test.Absolute = codes "absolute"
 test_name test.Triple = codes "triple"
 test_name test.Ktriple = codes "ktriple"
 
+abbrev pub class_name : Class → List ℕ
+class_name Counting = codes "counting"
+class_name Spectral = codes "spectral"
+
 -- the tests of counts alone are 1 to 9 and triple
 abbrev pub class_of_test : Test → Class
 class_of_test test.First = Counting

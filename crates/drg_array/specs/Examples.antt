@@ -1,5 +1,5 @@
 -- The numbers of some arrays, counted by hand in their graphs, and two arrays whose numbers fail a test.
-use Rattle.std.specs.Prelude.{◌≡◌, ℕ, pos, List, [], ◌∷◌}
+use Rattle.std.specs.Prelude.{◌≡◌, pos, [], ◌∷◌}
 use Rattle.drg_algebra.specs.Rational.{whole}
 use Rattle.drg_array.specs.Entries.{Entries}
 use Rattle.drg_array.specs.Numbers.{size, vertex_count, IsIntersectionNumber}

@@ -1,6 +1,6 @@
 //! Intersection arrays.
 
-ghost use Rattle.std.specs.Prelude.{◌↔◌, IsTrue, IsSome, IfSome, ◌≡◌, ◌≤◌, ◌<◌, ◌++◌, ℕ, ℤ, List, Some, None, IfOk, OnErr, IfErr, OnOk, slice_index, length};
+ghost use Rattle.std.specs.Prelude.{◌↔◌, IsTrue, IsSome, IfSome, ◌≡◌, ◌≤◌, ◌<◌, ◌++◌, Some, None, IfOk, OnErr, IfErr, OnOk, length};
 ghost use Rattle.std.specs.List.{AllByRecursion};
 ghost use Rattle.drg_array.specs.Entries.{Entries, IsEntry, b_at, c_at, a_at, diameter, IsArray};
 ghost use Rattle.drg_array.specs.Text.{IsArrayText, array_text, numbers_text};
@@ -90,6 +90,17 @@ impl Array {
         ensures { result ≡ b_at self.now 0 }
     {
         self.b[0]
+    }
+
+    /// The same array. Takes no memory.
+    pub fn copied(&self) -> Array
+        ensures { result ≡ self.now }
+    {
+        let _ = self.d();
+        let Some(copy) = Array::make(&self.b, &self.c) else {
+            unreachable!();
+        };
+        copy
     }
 
     /// The entry `b_i`, with `b_d = 0`.

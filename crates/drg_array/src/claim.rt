@@ -1,7 +1,7 @@
 //! What an array fails, and how it is written.
 
 ghost use Rattle.std.specs.Prelude.{◌≡◌, ◌++◌, OnOk};
-ghost use Rattle.drg_array.specs.Claims.{class_of, claim_text, spaced, test_of};
+ghost use Rattle.drg_array.specs.Claims.{class_name, class_of, claim_text, spaced, test_of};
 
 use crate::Test;
 use itoa::Buffer;
@@ -12,6 +12,18 @@ use std::alloc::AllocError;
 pub enum Class {
     Counting,
     Spectral,
+}
+
+impl Class {
+    /// The name, in lowercase letters.
+    pub fn name(&self) -> &'static str
+        ensures { result.now ≡ class_name self.now }
+    {
+        match self {
+            Class::Counting => "counting",
+            Class::Spectral => "spectral",
+        }
+    }
 }
 
 /// A test that an array fails, with the indices at which its condition is false.

@@ -1,8 +1,6 @@
 //! Reading an array text byte by byte, in one pass.
 
-ghost use Rattle.std.specs.Prelude.{◌≡◌, ◌+◌, ◌-◌, ◌*◌, ◌<◌, ◌≤◌, ◌++◌, ◌∷◌, [], length, Ok, Err, OnOk, IfOk, IfErr};
-ghost use Rattle.arrayvec.specs.ArrayVec.{array_vec_len};
-ghost use Rattle.drg_array.specs.Entries.{IsArray};
+ghost use Rattle.std.specs.Prelude.{◌≡◌, ◌+◌, ◌-◌, ◌*◌, ◌<◌, ◌≤◌, Ok, Err, OnOk, IfOk, IfErr};
 ghost use Rattle.drg_array.specs.Reading.{step as step_of, mark as mark_of, comma as comma_of, brace as brace_of, complete, reading, IsSound};
 ghost use Rattle.drg_array.specs.Reading as at;
 ghost use Rattle.drg_array.specs.Reader.{list_of, standing, state_of};

@@ -10,7 +10,7 @@ use arrayvec::ArrayVec;
 use std::marker::Model;
 
 /// The tests from handshake on that are built, in their order.
-pub const BUILT: [Test; 0] = [];
+pub const BUILT: [Test; 3] = [Test::Handshake, Test::Induced, Test::Triangles];
 
 /// How many tests there are.
 const TESTS: usize = 14;
@@ -28,6 +28,10 @@ impl Model for TestSet {
     ghost Value = { List Test };
 
     ghost view = { λ s. s.selected.items };
+
+    ghost use Rattle.drg_array.specs.TestLists.{IsSelection};
+
+    ghost invariant = { λ s. IsSelection s.selected.items };
 }
 
 impl TestSet {
@@ -63,7 +67,8 @@ impl TestSet {
 
     /// Whether the test runs.
     pub fn has(&self, test: Test) -> bool
-        ensures { IsTrue result ↔ (IsAlwaysRun test ⊎ Contains self.now test) }
+        ensures selection { IsSelection self.now }
+        ensures runs { IsTrue result ↔ (IsAlwaysRun test ⊎ Contains self.now test) }
     {
         match test {
             Test::First | Test::Degree | Test::Order | Test::Cross | Test::Size | Test::Intersect =>

@@ -94,6 +94,7 @@ fn makes_arrays(rt: HostRuntime) -> Result<(), Fail> {
     }
     let negative = Array::make(&[3, 3], &[1, 1]).expect(&rt, "an array");
     assert_eq!(rt; negative.a(1), -1);
+    assert!(rt; array.copied() == array);
     assert!(rt; matches!(Array::make(&[3, 2], &[1, 1]), Some(same) if same == array));
     assert!(rt; matches!(Array::make(&[3, 2], &[1, 2]), Some(other) if other != array));
     assert!(rt; matches!(Array::make(&[4095; 12], &[4095; 12]), Some(_)));
@@ -213,19 +214,23 @@ fn writes_nodes(rt: HostRuntime) -> Result<(), Fail> {
 
 #[test]
 fn reads_lists_of_tests(rt: HostRuntime) -> Result<(), Fail> {
-    let set = TestSet::read("none").expect(&rt, "a list of tests");
-    for test in [
-        Test::First,
-        Test::Degree,
-        Test::Order,
-        Test::Cross,
-        Test::Size,
-        Test::Intersect,
-    ] {
-        assert!(rt; set.has(test));
-        assert!(rt; TestSet::all().has(test));
+    let (handshake, induced, triangles) = (Test::Handshake, Test::Induced, Test::Triangles);
+    let cases = [
+        ("none", [false, false, false]),
+        ("handshake", [true, false, false]),
+        ("induced", [false, true, false]),
+        ("triangles", [false, false, true]),
+        ("triangles,handshake", [true, false, true]),
+        ("handshake,induced,triangles", [true, true, true]),
+    ];
+    for (text, runs) in cases {
+        let set = TestSet::read(text).expect(&rt, "a list of tests");
+        assert!(rt; set.has(Test::First) && set.has(Test::Intersect) && !set.has(Test::Mult));
+        let found = [set.has(handshake), set.has(induced), set.has(triangles)];
+        assert_eq!(rt; found, runs, "{text}");
     }
-    assert!(rt; !set.has(Test::Handshake));
+    let all = TestSet::all();
+    assert!(rt; all.has(handshake) && all.has(induced) && all.has(triangles));
     for text in [
         "",
         ",",
@@ -233,8 +238,9 @@ fn reads_lists_of_tests(rt: HostRuntime) -> Result<(), Fail> {
         "none,none",
         "None",
         "none ",
-        "mult,mult",
-        "mult, triple",
+        "mult",
+        "handshake,handshake",
+        "handshake, induced",
         "handshake,",
     ] {
         assert!(rt; TestSet::read(text).is_none(), "{text}");

@@ -1,4 +1,4 @@
-use Rattle.std.proofs.Common.{◌≡◌, ◌∙◌, rules, sym, arith}
+use Rattle.std.proofs.Common.{rules, sym, arith}
 use Rattle.std.specs.Prelude.{Contains}
 use Rattle.drg_array.proofs.TestListLaws.{built-found, room-for, twice, next}
 use Rattle.drg_array.proofs.test_set.select.Goals as goal

@@ -1,4 +1,4 @@
-use Rattle.std.proofs.Common.{◌≡◌, ◌∙◌, Ok, Err, sym}
+use Rattle.std.proofs.Common.{◌∙◌}
 use Rattle.drg_array.proofs.FaultLaws.{answer-is, array, fault, array-answer}
 use Rattle.drg_array.proofs.array.Array.read.Goals as goal
 

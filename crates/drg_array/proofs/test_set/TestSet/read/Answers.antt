@@ -52,3 +52,7 @@ returns-clause-some c =
     let names : map test_name c.names.selected.items ++ (c.names.rest.now ∷ []) ≡ pieces c.args.text.now =
     ap (λ (l : List (List ℕ)). map test_name c.names.selected.items ++ l) (sym (last-piece rest plain)) ∙ c.names.invariant.names in
     accepted c.names.selected.items c.select-2.new.selected.items c.args.text.now rest names c.names.invariant.selection c.in_ok-select-2.ensures.some
+
+pub invariant_of-result-2 : goal.invariant_of-result-2
+invariant_of-result-2 c =
+    next-selection c.names.selected.items c.select-2.new.selected.items c.names.rest.now c.names.invariant.selection c.in_ok-select-2.ensures.some
