@@ -1,0 +1,9 @@
+pub mod Ranges
+pub mod Places
+pub mod Reached
+pub mod Rows
+pub mod SizeLaws
+pub mod Filling
+pub mod Quotients
+pub mod Views
+pub mod FaultLaws
