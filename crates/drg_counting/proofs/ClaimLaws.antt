@@ -13,18 +13,18 @@ later m n ms ns h (inl less) = omega arith
 later m n ms ns h (inr same) = let e = same.0 in omega arith
 
 -- a claim of a later test doesn't come before
-later_test : (earlier claim : Claim) → test_number (test_of claim) < test_number (test_of earlier) → ComesBefore earlier claim → ⊥
+pub later_test : (earlier claim : Claim) → test_number (test_of claim) < test_number (test_of earlier) → ComesBefore earlier claim → ⊥
 later_test earlier claim h before = later (test_number (test_of earlier)) (test_number (test_of claim)) (indices_of earlier) (indices_of claim) h before
 
-within : (n : ℕ) (ms ns : List ℕ) → IsBefore (n ∷ ms) (n ∷ ns) → IsBefore ms ns
+pub within : (n : ℕ) (ms ns : List ℕ) → IsBefore (n ∷ ms) (n ∷ ns) → IsBefore ms ns
 within n ms ns (inl less) = absurd (omega arith)
 within n ms ns (inr same) = same.1
 
-one_index : (i j : ℕ) → IsBefore (i ∷ []) (j ∷ []) → i < j
+pub one_index : (i j : ℕ) → IsBefore (i ∷ []) (j ∷ []) → i < j
 one_index i j (inl less) = less
 one_index i j (inr same) = absurd same.1
 
-two_indices : (i j k l : ℕ) → IsBefore (i ∷ j ∷ []) (k ∷ l ∷ []) → (i < k) ⊎ ((i ≡ k) × (j < l))
+pub two_indices : (i j k l : ℕ) → IsBefore (i ∷ j ∷ []) (k ∷ l ∷ []) → (i < k) ⊎ ((i ≡ k) × (j < l))
 two_indices i j k l (inl less) = inl less
 two_indices i j k l (inr same) = inr (same.0, one_index j l same.1)
 

@@ -1,1 +1,2 @@
 pub mod ClaimOrder
+pub mod Parity

@@ -1,0 +1,7 @@
+use Rattle.std.proofs.Common.{ℕ, ◌<◌}
+use Rattle.drg_array.specs.declared.claim.Claim.TheVariants.{Handshake}
+use Rattle.drg_counting.specs.Parity.{NumbersFail}
+use Rattle.drg_counting.proofs.divisibility.first_handshake.Given as goal
+
+abbrev pub invariant-indices : goal.invariant-indices
+invariant-indices l = (j : ℕ) → j < l.i → NumbersFail l.numbers (Handshake j) → ⊥
