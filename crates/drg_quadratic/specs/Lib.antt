@@ -1,0 +1,6 @@
+pub mod Values
+pub mod Work
+pub mod Laws
+pub mod ZeroLaws
+pub mod Quadratic
+pub mod Text

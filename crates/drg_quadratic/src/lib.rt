@@ -1,0 +1,22 @@
+//! Exact values `a + b√root` over a squarefree root.
+//!
+//! A `Quadratic` has two rational parts, each a `Fraction`, and a root, which is a squarefree number
+//! above 1, or 0 where b is 0. It is an exact field: each operation gives the exact value, or refuses
+//! with `Wide`, and it refuses exactly where one of the operations on its parts does. No call takes
+//! memory but `Quadratic::write_text`.
+//!
+//! The values and their operations stand in `specs/Values.antt`, on the ring and the order of
+//! `drg_algebra`; which operations on fractions each of them takes, in `specs/Work.antt`; the value of a
+//! `Quadratic` in `specs/Quadratic.antt`, the laws of an exact field in `specs/Laws.antt`, and the text
+//! in `specs/Text.antt`.
+#![tactic(auto)]
+
+mod laws;
+mod parts;
+mod quadratic;
+#[cfg(test)]
+mod tests;
+mod text;
+
+pub use laws::zero_by_parts;
+pub use quadratic::Quadratic;
