@@ -1,0 +1,17 @@
+-- A text is the report of verdicts of one kind only.
+use Rattle.std.specs.Prelude.{◌≡◌}
+use Rattle.drg_array.specs.Entries.{Entries}
+use Rattle.drg_report.specs.Texts.{report_text}
+use Rattle.drg_report.specs.declared.verdict.Verdict.{Verdict}
+use Rattle.drg_report.specs.declared.verdict.Verdict.TheVariants.{Infeasible, Undecided, Survivor}
+
+-- both are infeasible, both undecided, or both survivors
+abbrev pub HaveOneKind : Verdict → Verdict → Type 0
+HaveOneKind (Infeasible claim class derivation pending) (Infeasible other_claim other_class other_derivation other_pending) = Unit {0}
+HaveOneKind (Undecided passed pending) (Undecided other_passed other_pending) = Unit {0}
+HaveOneKind (Survivor passed numbers) (Survivor other_passed other_numbers) = Unit {0}
+HaveOneKind verdict other = ⊥
+
+-- reports with the same text have verdicts of one kind
+abbrev pub TextTellsKind : Type 0
+TextTellsKind = (a b : Entries) (verdict other : Verdict) → report_text a verdict ≡ report_text b other → HaveOneKind verdict other

@@ -1,0 +1,54 @@
+-- The texts of reports.
+use Rattle.std.specs.Prelude.{ℕ, zero, suc, List, [], ◌∷◌, ◌++◌, codes, decimal}
+use Rattle.std.specs.List.{flat_map}
+use Rattle.drg_array.specs.Entries.{Entries}
+use Rattle.drg_array.specs.Text.{array_text}
+use Rattle.drg_array.specs.Claims.{claim_text, class_name, test_name}
+use Rattle.drg_array.specs.Nodes.{node_text}
+use Rattle.drg_array.specs.declared.test.Test.{Test}
+use Rattle.drg_array.specs.declared.claim.Claim.{Claim}
+use Rattle.drg_array.specs.declared.claim.Class.{Class}
+use Rattle.drg_derivation.specs.Text.{derivation_text}
+use Rattle.drg_intersection.specs.Numbers.{Numbers, k_at, n_of}
+use Rattle.drg_report.specs.declared.verdict.Cause.{Cause}
+use Rattle.drg_report.specs.declared.verdict.Cause.TheVariants.{Wide}
+use Rattle.drg_report.specs.declared.verdict.Pending.{Pending}
+use Rattle.drg_report.specs.declared.verdict.Verdict.{Verdict}
+use Rattle.drg_report.specs.declared.verdict.Verdict.TheVariants.{Infeasible, Undecided, Survivor}
+
+-- these words, the claim and its class, and a line end
+abbrev pub claim_line : List ℕ → Claim → Class → List ℕ
+claim_line words claim class = words ++ claim_text claim ++ codes " " ++ class_name class ++ codes "\n"
+
+-- the array, and the tests that ran and hold
+abbrev pub array_lines : Entries → List Test → List ℕ
+array_lines a passed = codes "array " ++ array_text a ++ codes "\npassed" ++ flat_map (λ t. 32 ∷ test_name t) passed ++ codes "\n"
+
+-- why a test isn't decided: a number that is too wide
+abbrev pub cause_text : Cause → List ℕ
+cause_text (Wide node) = codes "wide " ++ node_text node
+
+-- a line for a test that isn't decided
+abbrev pub pending_line : Pending → List ℕ
+pending_line pending = codes "pending " ++ test_name pending.test ++ codes " " ++ cause_text pending.cause ++ codes "\n"
+
+-- a line for each entry, in their order
+abbrev pub pending_lines : List Pending → List ℕ
+pending_lines pending = flat_map pending_line pending
+
+-- the first m sizes k_0, k_1, .., with one space before each
+abbrev pub sizes_text : Numbers → ℕ → List ℕ
+sizes_text numbers zero = []
+sizes_text numbers (suc i) = sizes_text numbers i ++ 32 ∷ decimal (k_at numbers i)
+
+-- the number of vertices, and the sizes k_0 to k_d
+abbrev pub numbers_lines : Numbers → List ℕ
+numbers_lines numbers = codes "n " ++ decimal (n_of numbers) ++ codes "\nsizes" ++ sizes_text numbers (suc numbers.d) ++ codes "\n"
+
+-- The one text of a report. An infeasible array has its derivation first, so that a reader of derivations can read the
+-- report, and then the claim and its class. The others have the array and the tests that ran and hold.
+abbrev pub report_text : Entries → Verdict → List ℕ
+report_text a (Infeasible claim class derivation pending) =
+    derivation_text derivation ++ claim_line (codes "verdict infeasible ") claim class ++ pending_lines pending
+report_text a (Undecided passed pending) = codes "verdict undecided\n" ++ array_lines a passed ++ pending_lines pending
+report_text a (Survivor passed numbers) = codes "verdict survivor\n" ++ array_lines a passed ++ numbers_lines numbers

@@ -1,0 +1,142 @@
+//! The text of a report.
+//!
+//! Each line ends with one line feed, and each number is written in decimal. Tests, entries and sizes
+//! stand in the order in which the verdict has them. The helpers append, and after an error a part of
+//! what they write may be appended.
+
+ghost use Rattle.std.specs.Prelude.{◌≡◌, ◌∷◌, ◌++◌, suc, IfOk, OnOk};
+ghost use Rattle.std.specs.List.{flat_map};
+ghost use Rattle.drg_array.specs.Claims.{test_name};
+ghost use Rattle.drg_report.specs.Texts.{array_lines, cause_text, claim_line, numbers_lines, pending_line, pending_lines, report_text, sizes_text};
+
+use crate::{Cause, Pending, Verdict};
+use drg_array::{Array, Claim, Class, Test};
+use drg_derivation::Derivation;
+use drg_intersection::Numbers;
+use itoa::Buffer;
+use std::alloc::{AllocError, Global};
+
+/// The text of the report on this array with this verdict. The one error is want of memory.
+pub fn render(alloc: Global, array: &Array, verdict: &Verdict) -> Result<Vec<u8>, AllocError>
+    ensures { IfOk result (λ text. text.items ≡ report_text array.now verdict.now) }
+{
+    let mut text = Vec::new(alloc);
+    match verdict {
+        Verdict::Infeasible {
+            claim,
+            class,
+            derivation,
+            pending,
+        } => {
+            derivation.write_text(&mut text)?;
+            write_claim_line(b"verdict infeasible ", *claim, *class, &mut text)?;
+            write_pending_lines(pending.as_slice(), &mut text)?;
+        }
+        Verdict::Undecided { passed, pending } => {
+            text.extend_from_slice(b"verdict undecided\n")?;
+            write_array_lines(array, passed.as_slice(), &mut text)?;
+            write_pending_lines(pending.as_slice(), &mut text)?;
+        }
+        Verdict::Survivor { passed, numbers } => {
+            text.extend_from_slice(b"verdict survivor\n")?;
+            write_array_lines(array, passed.as_slice(), &mut text)?;
+            write_numbers_lines(numbers, &mut text)?;
+        }
+    }
+    Ok(text)
+}
+
+/// Appends these words, which end with a space, the claim, its class and a line end. After an error a
+/// part of it may be appended.
+pub fn write_claim_line(
+    words: &[u8],
+    claim: Claim,
+    class: Class,
+    out: &mut Vec<u8>,
+) -> Result<(), AllocError>
+    ensures { OnOk result (out.new.items ≡ out.old.items ++ claim_line words.now claim class) }
+{
+    out.extend_from_slice(words)?;
+    claim.write_text(out)?;
+    out.extend_from_slice(b" ")?;
+    out.extend_from_slice(class.name().as_bytes())?;
+    out.extend_from_slice(b"\n")
+}
+
+/// Appends the line of the array, and the line of the tests that ran and hold.
+fn write_array_lines(array: &Array, passed: &[Test], out: &mut Vec<u8>) -> Result<(), AllocError>
+    ensures { OnOk result (out.new.items ≡ out.old.items ++ array_lines array.now passed.now) }
+{
+    out.extend_from_slice(b"array ")?;
+    array.write_text(out)?;
+    out.extend_from_slice(b"\npassed")?;
+    write_names(passed, out)?;
+    out.extend_from_slice(b"\n")
+}
+
+/// Appends the names of the tests, with one space before each.
+fn write_names(tests: &[Test], out: &mut Vec<u8>) -> Result<(), AllocError>
+    ensures { OnOk result (out.new.items ≡ out.old.items ++ flat_map (λ t. 32 ∷ test_name t) tests.now) }
+{
+    'tests: for test in tests {
+        out.push(b' ')?;
+        test.write_text(out)?;
+    }
+    Ok(())
+}
+
+/// Appends a line for each test that isn't decided.
+fn write_pending_lines(pending: &[Pending], out: &mut Vec<u8>) -> Result<(), AllocError>
+    ensures { OnOk result (out.new.items ≡ out.old.items ++ pending_lines pending.now) }
+{
+    'entries: for entry in pending {
+        write_pending_line(entry, out)?;
+    }
+    Ok(())
+}
+
+/// Appends the line of a test that isn't decided.
+fn write_pending_line(pending: &Pending, out: &mut Vec<u8>) -> Result<(), AllocError>
+    ensures { OnOk result (out.new.items ≡ out.old.items ++ pending_line pending.now) }
+{
+    out.extend_from_slice(b"pending ")?;
+    pending.test.write_text(out)?;
+    out.extend_from_slice(b" ")?;
+    write_cause(&pending.cause, out)?;
+    out.extend_from_slice(b"\n")
+}
+
+/// Appends why a test isn't decided.
+fn write_cause(cause: &Cause, out: &mut Vec<u8>) -> Result<(), AllocError>
+    ensures { OnOk result (out.new.items ≡ out.old.items ++ cause_text cause.now) }
+{
+    match cause {
+        Cause::Wide(node) => {
+            out.extend_from_slice(b"wide ")?;
+            node.write_text(out)
+        }
+    }
+}
+
+/// Appends the line of the number of vertices, and the line of the sizes k_0 to k_d.
+fn write_numbers_lines(numbers: &Numbers, out: &mut Vec<u8>) -> Result<(), AllocError>
+    ensures { OnOk result (out.new.items ≡ out.old.items ++ numbers_lines numbers.now) }
+{
+    out.extend_from_slice(b"n ")?;
+    out.extend_from_slice(Buffer::new().format(numbers.n()).as_bytes())?;
+    out.extend_from_slice(b"\nsizes")?;
+    write_sizes(numbers, out)?;
+    out.extend_from_slice(b"\n")
+}
+
+/// Appends the sizes k_0 to k_d, with one space before each.
+fn write_sizes(numbers: &Numbers, out: &mut Vec<u8>) -> Result<(), AllocError>
+    ensures { OnOk result (out.new.items ≡ out.old.items ++ sizes_text numbers.now (suc numbers.now.d)) }
+{
+    let mut buffer = Buffer::new();
+    'sizes: for i in 0..numbers.d() + 1 {
+        out.push(b' ')?;
+        out.extend_from_slice(buffer.format(numbers.k(i)).as_bytes())?;
+    }
+    Ok(())
+}
