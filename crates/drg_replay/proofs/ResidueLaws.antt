@@ -9,11 +9,11 @@ use Rattle.drg_algebra.specs.Sums.{IsMultiple}
 use Rattle.drg_replay.specs.Residues.{residue}
 
 -- z differs from r by a multiple of m
-record Differs (m : ℕ) (z : ℤ) (r : ℕ) : Type 0 where
-  times : ℤ
-  is : z ≡ pos r +ℤ pos m *ℤ times
+pub record Differs (m : ℕ) (z : ℤ) (r : ℕ) : Type 0 where
+  pub times : ℤ
+  pub is : z ≡ pos r +ℤ pos m *ℤ times
 
-of_residue : (m : ℕ) (z : ℤ) → 0 < m → Differs m z (residue m z)
+pub of_residue : (m : ℕ) (z : ℤ) → 0 < m → Differs m z (residue m z)
 of_residue (suc m) (pos a) h = record { times = pos (a / suc m); is = omega (arith, ints) }
 of_residue (suc m) (negsuc a) h = record { times = negsuc (a / suc m); is = omega (arith, ints) }
 of_residue zero z h = absurd (omega arith)

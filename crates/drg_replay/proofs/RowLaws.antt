@@ -66,7 +66,7 @@ balance_is a h rows zero (suc j) = six_terms (pos (b_at a j) *ℤ entry h rows z
 balance_is a h rows (suc i) zero = six_terms (pos 0) (a_at a zero *ℤ entry h rows (suc i) zero) (pos (c_at a (suc zero)) *ℤ entry h rows (suc i) (suc zero)) (pos (b_at a i)) (entry h rows i zero) (a_at a (suc i)) (entry h rows (suc i) zero)
 balance_is a h rows (suc i) (suc j) = six_terms (pos (b_at a j) *ℤ entry h rows (suc i) j) (a_at a (suc j) *ℤ entry h rows (suc i) (suc j)) (pos (c_at a (suc (suc j))) *ℤ entry h rows (suc i) (suc (suc j))) (pos (b_at a i)) (entry h rows i (suc j)) (a_at a (suc i)) (entry h rows (suc i) (suc j))
 
-start_entry : (h j : ℕ) (b : Bool) → (if b then pos 1 else pos 0) ≡ pos (bit b)
+pub start_entry : (h j : ℕ) (b : Bool) → (if b then pos 1 else pos 0) ≡ pos (bit b)
 start_entry h j true = refl
 start_entry h j false = refl
 
@@ -91,11 +91,11 @@ end : (rows : List (List ℤ)) (last : List ℤ) → slice_index_or (rows ++ las
 end [] last = refl
 end (row ∷ rows) last = end rows last
 
-entry_front : (h : ℕ) (rows : List (List ℤ)) (last : List ℤ) (t l : ℕ) → t ≤ length rows → entry h rows t l ≡ entry h (rows ++ last ∷ []) t l
+pub entry_front : (h : ℕ) (rows : List (List ℤ)) (last : List ℤ) (t l : ℕ) → t ≤ length rows → entry h rows t l ≡ entry h (rows ++ last ∷ []) t l
 entry_front h rows last zero l less = refl
 entry_front h rows last (suc t) l less = ap (λ row. slice_index_or row l (pos 0)) (sym (front rows last t (omega arith)))
 
-entry_end : (h : ℕ) (rows : List (List ℤ)) (last : List ℤ) (l : ℕ) → entry h (rows ++ last ∷ []) (suc (length rows)) l ≡ slice_index_or last l (pos 0)
+pub entry_end : (h : ℕ) (rows : List (List ℤ)) (last : List ℤ) (l : ℕ) → entry h (rows ++ last ∷ []) (suc (length rows)) l ≡ slice_index_or last l (pos 0)
 entry_end h rows last l = ap (λ row. slice_index_or row l (pos 0)) (end rows last)
 
 cell_at : (a : Entries) (h : ℕ) (rows : List (List ℤ)) (i j : ℕ) (values : List ℤ) (k l : ℕ) → EachHolds (cells_from a h rows i j values) → l ≡ j + k → k < length values
@@ -104,7 +104,7 @@ cell_at a h rows i j [] k l holds e less = absurd (omega arith)
 cell_at a h rows i j (v ∷ vs) zero l holds e less = let same : l ≡ j = omega arith in rw same (is_whole_same _ _ holds.1.1.0)
 cell_at a h rows i j (v ∷ vs) (suc k) l holds e less = cell_at a h rows i (suc j) vs k l holds.1.1.1 (omega arith) (omega arith)
 
-length_more : (rows : List (List ℤ)) (last : List ℤ) → length (rows ++ last ∷ []) ≡ suc (length rows)
+pub length_more : (rows : List (List ℤ)) (last : List ℤ) → length (rows ++ last ∷ []) ≡ suc (length rows)
 length_more [] last = refl
 length_more (row ∷ rows) last = ap suc (length_more rows last)
 
@@ -148,7 +148,7 @@ set_rowed a rows y new old is h = elim (set_at rows y h new) [
       let Q : ℕ → Type 0 = λ n. Rowed a n new in subst P (sym p.1) (subst Q (sym p.0) is))
 ]
 
-no_rows_at : (n h : ℕ) → rows_at (replicate n []) h ≡ []
+pub no_rows_at : (n h : ℕ) → rows_at (replicate n []) h ≡ []
 no_rows_at zero h = refl
 no_rows_at (suc n) zero = refl
 no_rows_at (suc n) (suc h) = no_rows_at n h

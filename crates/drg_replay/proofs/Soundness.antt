@@ -45,7 +45,7 @@ all_are_met a claim (line ∷ earlier) h =
     (all_are_met a claim earlier w.0, w.1)
 
 -- an index that is in the range
-above_zero : (n : ℤ) (limit : ℕ) → is_index 1 n limit ≡ true → suc (unsigned_abs n - 1) ≤ limit
+pub above_zero : (n : ℤ) (limit : ℕ) → is_index 1 n limit ≡ true → suc (unsigned_abs n - 1) ≤ limit
 above_zero (pos zero) limit h = cc
 above_zero (pos (suc n)) limit h = let b = both (int_le (pos 1) (pos (suc n))) (int_le (pos (suc n)) (pos limit)) h in omega (arith, ints)
 above_zero (negsuc n) limit h = cc
@@ -170,7 +170,7 @@ module _ (laws : Laws) (a : Entries) (array : IsArray a) where
 
 -- ---- the answer
 
-accepted : (p : Progress) (r : Result ⊤ Refusal) (class found : Class) (n : ℕ) → answer_from p r class n ≡ Ok found → (p ≡ AllMet) × (r ≡ Ok tt)
+pub accepted : (p : Progress) (r : Result ⊤ Refusal) (class found : Class) (n : ℕ) → answer_from p r class n ≡ Ok found → (p ≡ AllMet) × (r ≡ Ok tt)
 accepted AllMet (Ok t) class found n h = (refl, refl)
 accepted AllMet (Err NotMet) class found n h = cc
 accepted AllMet (Err Wide) class found n h = cc

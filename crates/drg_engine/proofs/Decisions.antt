@@ -1,0 +1,80 @@
+-- When a verdict is right, and what a right verdict decides.
+use Rattle.std.proofs.Common.{◌≡◌, ◌≤◌, List, [], ◌∷◌, Ok, refl, sym, ap, subst, ◌∙◌, arith, inl}
+use Rattle.drg_array.specs.Entries.{Entries, IsArray}
+use Rattle.drg_array.specs.Claims.{class_of, test_of}
+use Rattle.drg_array.specs.Conditions.{Fails, Holds}
+use Rattle.drg_array.specs.ConditionLaws.{FailsWhereFalse, HoldsWhereNoneFails}
+use Rattle.drg_array.specs.TestLists.{IsSelection}
+use Rattle.drg_array.specs.declared.claim.Claim.{Claim}
+use Rattle.drg_array.specs.declared.claim.Class.{Class}
+use Rattle.drg_array.specs.declared.claim.Class.TheVariants.{Counting}
+use Rattle.drg_array.specs.declared.node.Node.{Node}
+use Rattle.drg_array.specs.declared.test.Test.{Test}
+use Rattle.drg_counting.specs.ClaimOrder.{test_number}
+use Rattle.drg_derivation.specs.Content.{Content}
+use Rattle.drg_derivation.specs.declared.line.Line.{Line}
+use Rattle.drg_graph.specs.NumberLaws.{CountingClaimsLaw}
+use Rattle.drg_intersection.specs.Faults.{IsFirstWide}
+use Rattle.drg_intersection.specs.Numbers.{Numbers, AreNumbersOf}
+use Rattle.drg_replay.specs.Answers.{answer_of}
+use Rattle.drg_report.specs.declared.verdict.Cause.TheVariants.{Wide}
+use Rattle.drg_report.specs.declared.verdict.Pending.{Pending}
+use Rattle.drg_report.specs.declared.verdict.Verdict.{Verdict}
+use Rattle.drg_report.specs.declared.verdict.Verdict.TheVariants.{Infeasible, Undecided, Survivor}
+use Rattle.drg_engine.specs.Laws.{IsDecided, NoneIsWide}
+use Rattle.drg_engine.specs.Lines.{AreLinesOf}
+use Rattle.drg_engine.specs.Verdicts.{AreTests, IsEarlier, IsFirstFailing, IsInfeasible, IsNodeOf, IsSurvivor, IsUndecided, Runs, RunsBefore, VerdictHolds}
+use Rattle.drg_engine.proofs.ClaimFacts.{counting_claim, small_claim}
+use Rattle.drg_engine.proofs.TestOrder.{is_array_test, runs_small}
+
+-- the derivation of these parts
+abbrev pub of_parts : Entries → Claim → List Line → Content
+of_parts a claim lines = record { array = a; claim = claim; lines = lines }
+
+module _ (law : HoldsWhereNoneFails) (a : Entries) where
+  -- each test before that of the first failing claim holds
+  held_before : (tests : List Test) (claim : Claim) → IsFirstFailing a tests claim → (t : Test) → RunsBefore tests (test_of claim) t → Holds a t
+  held_before tests claim first t (runs, earlier) =
+      let small = small_claim a claim first.fails in
+      law a t (is_array_test t (omega (arith, earlier, small)))
+      (λ other same fails. first.first other (inl (subst (λ u. IsEarlier u (test_of claim)) (sym same) earlier)) (subst (Runs tests) (sym same) runs) fails)
+
+  module _ (graph : CountingClaimsLaw) (array : IsArray a) where
+    pub infeasible : (claim : Claim) (class : Class) (lines : List Line) (pending : List Pending) → class ≡ class_of claim → AreLinesOf a claim lines
+        → answer_of (of_parts a claim lines) ≡ Ok Counting → pending ≡ [] → (tests : List Test) → IsFirstFailing a tests claim → IsInfeasible a tests claim class (of_parts a claim lines) pending
+    infeasible claim class lines pending same are answer none tests first = record {
+      claimed = first;
+      held = held_before tests claim first;
+      same_class = same;
+      derived = record { same_array = refl; same_claim = refl; lines = are; accepted = answer ∙ ap Ok (sym (same ∙ counting_claim a claim first.fails)) };
+      none_pending = none;
+      graph = λ counting. graph a claim array first.fails;
+    }
+
+  pub undecided : (tests passed : List Test) (pending : List Pending) (last : Test) (node : Node)
+      → IsNodeOf last node → IsFirstWide a node → test_number last ≤ 9 → pending ≡ record { test = last; cause = Wide node } ∷ [] → AreTests (RunsBefore tests last) passed
+      → ((claim : Claim) → IsEarlier (test_of claim) last → Fails a claim → ⊥) → IsUndecided a tests passed pending
+  undecided tests passed pending last node part wide small entry are none = record {
+    last = last;
+    node = node;
+    part = part;
+    wide = wide;
+    entry = entry;
+    all_passed = are;
+    held = λ t h. let runs = (are.members t).0 h in
+        law a t (is_array_test t (omega (arith, runs.1, small))) (λ claim same fails. none claim (subst (λ u. IsEarlier u last) (sym same) runs.1) fails);
+  }
+
+  pub survivor : (tests passed : List Test) (numbers : Numbers) → IsSelection tests → AreTests (Runs tests) passed → AreNumbersOf a numbers
+      → ((claim : Claim) → Runs tests (test_of claim) → Fails a claim → ⊥) → IsSurvivor a tests passed numbers
+  survivor tests passed numbers selection are numbers_of none = record {
+    all_passed = are;
+    held = λ t h. let runs = (are.members t).0 h in
+        law a t (is_array_test t (runs_small tests t selection runs)) (λ claim same fails. none claim (subst (Runs tests) (sym same) runs) fails);
+    numbers_of = numbers_of;
+  }
+
+pub decided : FailsWhereFalse → (a : Entries) (tests : List Test) (verdict : Verdict) → NoneIsWide a → VerdictHolds a tests verdict → IsDecided a tests verdict
+decided false a tests (Infeasible claim class derivation pending) none right = (right.claimed.runs, false a claim right.claimed.fails)
+decided false a tests (Undecided passed pending) none right = none right.node right.wide
+decided false a tests (Survivor passed numbers) none right = λ t runs. right.held t ((right.all_passed.members t).1 runs)

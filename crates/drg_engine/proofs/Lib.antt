@@ -1,0 +1,11 @@
+pub mod StepTests
+pub mod SizeLines
+pub mod RowLines
+pub mod TakenLines
+pub mod Closings
+pub mod Acceptance
+pub mod Texts
+pub mod TestOrder
+pub mod ClaimFacts
+pub mod Decisions
+pub mod LineLists

@@ -1,0 +1,134 @@
+-- An accepted derivation of a claim that the array fails has a text.
+use Rattle.std.proofs.Common.{◌≡◌, ℕ, zero, suc, ◌+◌, ◌-◌, ◌*◌, ◌^◌, ◌<◌, ◌≤◌, true, List, [], ◌∷◌, length, reverse, Ok, sym, ap, ◌∙◌, subst, arith, Option}
+use Rattle.std.specs.Prelude.{ℤ, pos, negsuc, ◌*ℤ◌, int_le, unsigned_abs}
+use Rattle.std.specs.List.{AllByRecursion}
+use Rattle.std.proofs.lemmas.Int.{ints, unsigned_abs-mul}
+use Rattle.std.proofs.lemmas.List.{reverse-reverse}
+use Rattle.drg_array.specs.Entries.{Entries, IsArray, diameter, c_at}
+use Rattle.drg_array.specs.Conditions.{Fails}
+use Rattle.drg_array.specs.declared.claim.Claim.{Claim}
+use Rattle.drg_array.specs.declared.claim.Claim.TheVariants.{First, Degree, Order, Cross, Size, Intersect, Handshake, Induced, Triangles}
+use Rattle.drg_array.specs.declared.claim.Class.TheVariants.{Counting}
+use Rattle.drg_array.proofs.EntryLemmas.{c-positive}
+use Rattle.drg_derivation.specs.declared.line.Line.{Line}
+use Rattle.drg_derivation.specs.declared.line.Line.TheVariants.{K, P}
+use Rattle.drg_derivation.specs.Integers.{IsShort}
+use Rattle.drg_derivation.specs.Lines.{AreEvidence, AreShort}
+use Rattle.drg_derivation.specs.Text.{IsClaim}
+use Rattle.drg_replay.specs.Steps.{EachHolds, first_failure}
+use Rattle.drg_replay.specs.Work.{in_range}
+use Rattle.drg_replay.specs.Sizes.{sizes_from, size_steps}
+use Rattle.drg_replay.specs.Rows.{rows_at, cells_from}
+use Rattle.drg_replay.specs.Lines.{is_index, known_of, steps_of, rows_of, framed_by}
+use Rattle.drg_replay.specs.Claims.{closing_steps}
+use Rattle.drg_replay.specs.Answers.{outcome, first_decision, class_of}
+use Rattle.drg_replay.specs.Soundness.{AllAreMet}
+use Rattle.drg_replay.proofs.Soundness.{above_zero, accepted, all_are_met}
+use Rattle.drg_replay.proofs.StepLaws.{each_holds, both, at_most, is_less, is_same, is_whole_same}
+use Rattle.drg_engine.specs.Laws.{TextLaw}
+use Rattle.drg_engine.proofs.TakenLines.{onto, all_onto}
+use Rattle.drg_engine.proofs.Acceptance.{answer_is}
+
+-- ---- numbers that can be written
+times_more : (n c : ℕ) → 1 ≤ c → n ≤ n * c
+times_more n zero positive = absurd (omega arith)
+times_more n (suc c) positive = omega arith
+
+short : (z : ℤ) (c : ℕ) → 1 ≤ c → in_range (z *ℤ pos c) ≡ true → IsShort z
+short z c positive inside =
+    let less : unsigned_abs (z *ℤ pos c) < 2 ^ 127 = is_less _ _ inside in
+    let product = unsigned_abs-mul z (pos c) in
+    let more = times_more (unsigned_abs z) c positive in
+    omega (arith, less, product, more)
+
+index_short : (least : ℕ) (n : ℤ) (limit : ℕ) → limit ≤ 12 → is_index least n limit ≡ true → (unsigned_abs n ≤ limit) × IsShort n
+index_short least (pos n) limit small h =
+    let high = (both (int_le (pos least) (pos n)) (int_le (pos n) (pos limit)) h).1 in
+    let less : n ≤ limit = omega (arith, ints, high) in
+    (less, omega (arith, less, small))
+index_short least (negsuc n) limit small h = absurd (let low = (both (int_le (pos least) (negsuc n)) (int_le (negsuc n) (pos limit)) h).0 in cc)
+
+sizes_short : (a : Entries) (i : ℕ) (last : ℤ) (vs : List ℤ) → IsArray a → i + length vs ≤ diameter a → EachHolds (sizes_from a i last vs) → AllByRecursion IsShort vs
+sizes_short a i last [] array inside h = tt
+sizes_short a i last (v ∷ vs) array inside h =
+    (short v (c_at a (suc i)) (c-positive a i array (omega (arith, inside))) h.0, sizes_short a (suc i) v vs array (omega (arith, inside)) h.1.1.1)
+
+cells_short : (a : Entries) (h : ℕ) (rows : List (List ℤ)) (i j : ℕ) (values : List ℤ) → IsArray a → suc i ≤ diameter a → EachHolds (cells_from a h rows i j values) → AllByRecursion IsShort values
+cells_short a h rows i j [] array inside steps = tt
+cells_short a h rows i j (v ∷ vs) array inside steps =
+    let turn : pos (c_at a (suc i)) *ℤ v ≡ v *ℤ pos (c_at a (suc i)) = omega (arith, ints) in
+    let here : in_range (v *ℤ pos (c_at a (suc i))) ≡ true = ap in_range (sym turn) ∙ steps.0 in
+    (short v (c_at a (suc i)) (c-positive a i array inside) here, cells_short a h rows i (suc j) vs array inside steps.1.1.1)
+
+-- ---- lines that can be written
+-- the line has its count of numbers, and each of them can be written
+abbrev CanStand : Entries → Line → Type 0
+CanStand a (K values) = (1 ≤ length values) × (length values ≤ suc (diameter a)) × AllByRecursion IsShort values
+CanStand a (P h i values) = (length values ≡ suc (diameter a)) × IsShort h × IsShort i × AllByRecursion IsShort values
+CanStand a line = ⊥
+
+sizes_stand : (a : Entries) (array : IsArray a) (sizes : Option (List ℤ)) (values : List ℤ) → EachHolds (size_steps a sizes values) → CanStand a (K values)
+sizes_stand a array sizes [] h = absurd (let e = h.0 in cc)
+sizes_stand a array sizes (v ∷ vs) h =
+    let long = at_most (length vs) (diameter a) h.1.0 in
+    let first : v ≡ pos 1 = is_whole_same v (pos 1) h.1.1.0 in
+    (omega arith, omega (arith, long), ((let P : ℤ → Type 0 = λ z. IsShort z in subst P (sym first) (omega arith)), sizes_short a 0 v vs array (omega (arith, long)) h.1.1.1))
+
+stands : (a : Entries) → IsArray a → (earlier : List Line) (line : Line) → outcome a earlier line ≡ Ok tt → CanStand a line
+stands a array earlier (K values) met = sizes_stand a array _ values (each_holds (steps_of a (known_of a earlier) (K values)) met)
+stands a array earlier (P h i values) met =
+    let steps = each_holds (steps_of a (known_of a earlier) (P h i values)) met in
+    let small = array.short in
+    let count = is_same (length values) (diameter a + 1) steps.1.1.1.1.0 in (
+      omega (arith, count),
+      (index_short 0 h (diameter a) small steps.0).1,
+      (index_short 1 i (diameter a) small steps.1.0).1,
+      cells_short a (unsigned_abs h) (rows_at (rows_of a earlier) (unsigned_abs h)) (unsigned_abs i - 1) 0 values array (above_zero i (diameter a) steps.1.0) steps.1.1.1.1.1,
+    )
+stands a array earlier line met = cc
+
+all_stand : (a : Entries) → IsArray a → (lines : List Line) → AllAreMet a lines → AllByRecursion (CanStand a) lines
+all_stand a array [] met = tt
+all_stand a array (line ∷ earlier) met = (stands a array earlier line met.1, all_stand a array earlier met.0)
+
+all_in : (Q : Line → Type 0) (lines earlier : List Line) → AllByRecursion Q lines → AllByRecursion Q earlier → AllByRecursion Q (onto lines earlier)
+all_in Q [] earlier here there = there
+all_in Q (line ∷ lines) earlier here there = all_in Q lines (line ∷ earlier) here.1 (here.0, there)
+
+all_back : (Q : Line → Type 0) (lines : List Line) → AllByRecursion Q (reverse lines) → AllByRecursion Q lines
+all_back Q lines all = subst (AllByRecursion Q) (all_onto (reverse lines) ∙ reverse-reverse lines) (all_in Q (reverse lines) [] all tt)
+
+evidence : (a : Entries) (width : ℕ) (lines : List Line) → AllByRecursion (CanStand a) lines → AreEvidence (diameter a) width lines
+evidence a width [] all = tt
+evidence a width (K values ∷ lines) all = (let can = all.0 in (can.0, omega (arith, can.1)), evidence a width lines all.1)
+evidence a width (P h i values ∷ lines) all = (let count = all.0.0 in omega (arith, count), evidence a width lines all.1)
+evidence a width (line ∷ lines) all = absurd all.0
+
+all_short : (a : Entries) (lines : List Line) → AllByRecursion (CanStand a) lines → AreShort lines
+all_short a [] all = tt
+all_short a (K values ∷ lines) all = (all.0.2, all_short a lines all.1)
+all_short a (P h i values ∷ lines) all = ((all.0.1, (all.0.2, all.0.3)), all_short a lines all.1)
+all_short a (line ∷ lines) all = absurd all.0
+
+-- ---- the claim
+small : (a : Entries) (claim : Claim) → IsArray a → Fails a claim → IsClaim claim
+small a First array fails = tt
+small a (Degree i) array fails = let short = array.short in let h = fails.0.1 in (omega arith, tt)
+small a (Order i) array fails = let short = array.short in let h = fails.1 in (omega arith, tt)
+small a (Cross i j) array fails = let short = array.short in let h = fails.1 in (omega arith, (omega arith, tt))
+small a (Size i) array fails = let short = array.short in let h = fails.0.1 in (omega arith, tt)
+small a (Intersect h i j) array fails =
+    let short = array.short in let hh = fails.0 in let hi = fails.1 in let hj = fails.2 in (omega arith, (omega arith, (omega arith, tt)))
+small a (Handshake i) array fails = let short = array.short in let h = fails.0.1 in (omega arith, tt)
+small a (Induced i j) array fails = let short = array.short in let h = fails.0.1 in let k = fails.1.1 in (omega arith, (omega arith, tt))
+small a (Triangles i) array fails = let short = array.short in let h = fails.0.1 in (omega arith, tt)
+small a claim array fails = absurd fails
+
+pub has_text : TextLaw
+has_text derivation array fails made are =
+    let a = derivation.array in
+    let lines = reverse derivation.lines in
+    let answer = answer_is a derivation.claim derivation.lines array fails made are in
+    let parts = accepted (first_decision a derivation.claim lines) (first_failure (closing_steps a derivation.claim (known_of a lines))) (class_of (framed_by lines)) Counting (length lines + 4) answer in
+    let all = all_back (CanStand a) derivation.lines (all_stand a array lines (all_are_met a derivation.claim lines parts.0)) in
+    record { array = array; claim = small a derivation.claim array fails; evidence = evidence a 2 derivation.lines all; short = all_short a derivation.lines all }

@@ -1,0 +1,47 @@
+-- The evidence lines of a claim: which numbers of the array its derivation states.
+use Rattle.std.specs.Prelude.{◌≡◌, ℕ, zero, suc, ◌<◌, ◌≤◌, pos, List, [], ◌∷◌, length, slice_index_or}
+use Rattle.drg_algebra.specs.Rational.{whole}
+use Rattle.drg_array.specs.Entries.{Entries, diameter}
+use Rattle.drg_array.specs.Numbers.{size, IsIntersectionNumber}
+use Rattle.drg_array.specs.declared.claim.Claim.{Claim}
+use Rattle.drg_array.specs.declared.claim.Claim.TheVariants.{First, Degree, Order, Cross, Size, Intersect, Handshake, Induced, Triangles}
+use Rattle.drg_derivation.specs.declared.line.Line.{Line}
+use Rattle.drg_derivation.specs.declared.line.Line.TheVariants.{K, P}
+
+-- a `k` line with the first m sizes, k_0 to k_(m-1)
+abbrev pub IsSizeLine : Entries → ℕ → Line → Type 0
+IsSizeLine a m (K values) = (length values ≡ m) × ((i : ℕ) → i < m → size a i ≡ whole (slice_index_or values i (pos 0)))
+IsSizeLine a m line = ⊥
+
+-- a `p` line with row i of the intersection numbers with upper index h
+abbrev pub IsRowLine : Entries → ℕ → ℕ → Line → Type 0
+IsRowLine a h i (P g l values) = (g ≡ pos h) × (l ≡ pos i) × (length values ≡ suc (diameter a))
+    × ((j : ℕ) → j ≤ diameter a → IsIntersectionNumber a h i j (whole (slice_index_or values j (pos 0))))
+IsRowLine a h i line = ⊥
+
+-- `p` lines with so many rows of h, from row i on
+abbrev pub AreRowLines : Entries → ℕ → ℕ → ℕ → List Line → Type 0
+AreRowLines a h i zero [] = Unit {0}
+AreRowLines a h i zero (line ∷ lines) = ⊥
+AreRowLines a h i (suc m) [] = ⊥
+AreRowLines a h i (suc m) (line ∷ lines) = IsRowLine a h i line × AreRowLines a h (suc i) m lines
+
+-- a `k` line with all sizes, and then `p` lines with rows 1 to m of h
+abbrev pub AreSizesAndRows : Entries → ℕ → ℕ → List Line → Type 0
+AreSizesAndRows a h m [] = ⊥
+AreSizesAndRows a h m (line ∷ lines) = IsSizeLine a (suc (diameter a)) line × AreRowLines a h 1 m lines
+
+-- The lines of a derivation of the claim: none where the entries show it; the sizes before k_i for size i; rows 1 to i - 1
+-- of h for intersect h i j; all sizes for handshake; and also rows 1 to i of h = i for induced i j and triangles i.
+abbrev pub AreLinesOf : Entries → Claim → List Line → Type 0
+AreLinesOf a First lines = lines ≡ []
+AreLinesOf a (Degree i) lines = lines ≡ []
+AreLinesOf a (Order i) lines = lines ≡ []
+AreLinesOf a (Cross i j) lines = lines ≡ []
+AreLinesOf a (Size i) lines = (line : Line) × (lines ≡ line ∷ []) × IsSizeLine a i line
+AreLinesOf a (Intersect h zero j) lines = ⊥
+AreLinesOf a (Intersect h (suc i) j) lines = AreRowLines a h 1 i lines
+AreLinesOf a (Handshake i) lines = AreSizesAndRows a i 0 lines
+AreLinesOf a (Induced i j) lines = AreSizesAndRows a i i lines
+AreLinesOf a (Triangles i) lines = AreSizesAndRows a i i lines
+AreLinesOf a claim lines = ⊥
