@@ -1,4 +1,6 @@
-mod CheckLemmas
+pub mod CheckLemmas
 mod InputLemmas
 mod ReplayLemmas
+mod TestListLemmas
+mod WordLemmas
 mod RunLemmas

@@ -1,35 +1,26 @@
 -- From the parts of an answer to the whole.
-use Rattle.std.proofs.Common.{◌≡◌, ◌≢◌, ℕ, List, [], ◌∷◌, Option, Result, Ok, Err, refl, sym, subst, ◌∙◌, arith}
-use Rattle.std.specs.Prelude.{codes}
+use Rattle.std.proofs.Common.{◌≢◌, ℕ, List, Option, Result, Ok, Err, refl, sym, subst, arith}
 use Rattle.std.specs.Io.KnownBytes.{Appends}
-use Rattle.drg_array.specs.Entries.{Entries}
+use Rattle.drg_array.specs.declared.test.Test.{Test}
 use Rattle.drg_array.specs.declared.claim.Claim.{Claim}
 use Rattle.drg_array.specs.declared.claim.Class.{Class}
 use Rattle.drg_replay.specs.Answers.{answer_of}
 use Rattle.drg_replay.specs.declared.answer.ReplayFault.{ReplayFault}
 use Rattle.drg_replay.specs.declared.answer.ReplayFault.TheVariants as fault
-use Rattle.drg_program.specs.Check.{Judges}
+use Rattle.drg_report.specs.declared.verdict.Verdict.{Verdict}
+use Rattle.drg_report.specs.declared.verdict.Verdict.TheVariants as verdict
+use Rattle.drg_program.specs.Check.{status_of}
 use Rattle.drg_program.specs.Replay.{Tells}
 use Rattle.drg_program.specs.Run.{Answers, Decides, IsFault, IsInGrammar, IsReport, IsVerdict, IsWithinLimit}
-use Rattle.drg_program.specs.Words.{IsCommandOn}
 use Rattle.drg_program.specs.declared.command.Command.{Command}
 use Rattle.drg_program.specs.declared.command.Command.TheVariants.{Check, Replay}
 use Rattle.drg_program.specs.declared.status.Status.{Status}
 use Rattle.drg_program.specs.declared.status.Status.TheVariants.{Survivor, Infeasible, Accepted, Rejected, Undecided, Usage, BadInput, TooLong, OpenFault, ReadFault, WriteFault, Memory}
 
-judged : (a : Entries) (status : Status) (text : List ℕ) → Judges a status text → IsVerdict status Check
-judged a Survivor text h = tt
-judged a Infeasible text h = tt
-judged a Accepted text h = absurd h
-judged a Rejected text h = absurd h
-judged a Undecided text h = absurd h
-judged a Usage text h = absurd h
-judged a (BadInput line at) text h = absurd h
-judged a TooLong text h = absurd h
-judged a OpenFault text h = absurd h
-judged a ReadFault text h = absurd h
-judged a WriteFault text h = absurd h
-judged a Memory text h = absurd h
+judged : (verdict : Verdict) (tests : List Test) → IsVerdict (status_of verdict) (Check tests)
+judged (verdict.Infeasible claim class derivation pending) tests = tt
+judged (verdict.Undecided passed pending) tests = tt
+judged (verdict.Survivor passed numbers) tests = tt
 
 told : (claim : Claim) (answer : Result Class ReplayFault) (status : Status) (text : List ℕ) → Tells claim answer status text → IsVerdict status Replay
 told claim (Ok class) status text h = subst (λ (s : Status). IsVerdict s Replay) (sym h.0) tt
@@ -40,7 +31,7 @@ told claim (Err fault.Memory) status text h = absurd h
 
 -- the status of a report is an answer of the command
 is_verdict : (command : Command) (bytes : List ℕ) (status : Status) (text : List ℕ) → IsReport command bytes status text → IsVerdict status command
-is_verdict Check bytes status text (a, is, h) = judged a status text h
+is_verdict (Check tests) bytes status text (a, is, h) = subst (λ (s : Status). IsVerdict s (Check tests)) (sym h.status_is) (judged h.verdict tests)
 is_verdict Replay bytes status text report = told report.derivation.claim (answer_of report.derivation) status text report.concludes.tells
 
 -- a report that was written whole is the answer of its status
@@ -60,26 +51,12 @@ whole_report command bytes WriteFault text old new short report appended = absur
 whole_report command bytes Memory text old new short report appended = absurd (is_verdict command bytes Memory text report)
 
 in_grammar : (command : Command) (bytes : List ℕ) (status : Status) (text : List ℕ) → IsReport command bytes status text → IsInGrammar command bytes
-in_grammar Check bytes status text (a, is, h) = (a, is)
+in_grammar (Check tests) bytes status text (a, is, h) = (a, is)
 in_grammar Replay bytes status text report = (report.n, report.derivation, report.begins)
 
 not_in_grammar : (command : Command) (bytes : List ℕ) (line at : ℕ) → IsFault command bytes line at → IsInGrammar command bytes → ⊥
-not_in_grammar Check bytes line at (one, (none, kind, fault)) (a, is) = none a is
+not_in_grammar (Check tests) bytes line at (one, (none, kind, fault)) (a, is) = none a is
 not_in_grammar Replay bytes line at (zero, (none, refused)) (n, δ, begins) = none n δ begins
-
-differ : (file name : List ℕ) → codes "check" ∷ file ∷ [] ≡ codes "replay" ∷ name ∷ [] → ⊥
-differ file name e = cc
-
-same_file : (command file name : List ℕ) → command ∷ file ∷ [] ≡ command ∷ name ∷ [] → file ≡ name
-same_file command file name e = cc
-
--- the words have one command and one file
-pub same_command : (words : List (List ℕ)) (command other : Command) (file name : List ℕ) → IsCommandOn command file words
-    → IsCommandOn other name words → (command ≡ other) × (file ≡ name)
-same_command words Check Check file name is other = (refl, same_file (codes "check") file name (sym is.0 ∙ other.0))
-same_command words Check Replay file name is other = absurd (differ file name (sym is.0 ∙ other.0))
-same_command words Replay Check file name is other = absurd (differ name file (sym other.0 ∙ is.0))
-same_command words Replay Replay file name is other = (refl, same_file (codes "replay") file name (sym is.0 ∙ other.0))
 
 reported : (command : Command) (bytes : List ℕ) (status : Status) (text : List ℕ) → IsWithinLimit bytes → IsReport command bytes status text
     → Decides command bytes status

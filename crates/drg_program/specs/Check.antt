@@ -1,20 +1,19 @@
 -- What `check` finds in an array.
-use Rattle.std.specs.Prelude.{◌≡◌, ℕ, List, Ok, if◌then◌else◌, ◌==◌, ◌&&◌, ◌-◌, nat_lt, length, take, slice_index}
+use Rattle.std.specs.Prelude.{◌≡◌, ℕ, List, if◌then◌else◌, ◌==◌, ◌&&◌, ◌-◌, ⊤, nat_lt, length, take, slice_index}
 use Rattle.drg_array.specs.Entries.{Entries}
 use Rattle.drg_array.specs.Text.{IsArrayText}
+use Rattle.drg_array.specs.Conditions.{Holds}
 use Rattle.drg_array.specs.Faults.{IsFault}
 use Rattle.drg_array.specs.declared.fault.ArrayKind.{ArrayKind}
-use Rattle.drg_array.specs.Conditions.{Fails}
-use Rattle.drg_array.specs.declared.claim.Claim.{Claim}
-use Rattle.drg_array.specs.declared.claim.Class.TheVariants.{Counting}
-use Rattle.drg_counting.specs.ClaimOrder.{ComesBefore, IsBasic}
-use Rattle.drg_derivation.specs.Content.{Content}
+use Rattle.drg_array.specs.declared.test.Test.{Test}
 use Rattle.drg_derivation.specs.Text.{IsDerivationText, derivation_text}
-use Rattle.drg_graph.specs.Graph.{NoGraph}
-use Rattle.drg_replay.specs.Answers.{answer_of}
-use Rattle.drg_program.specs.Report.{survivor_text, infeasible_text}
+use Rattle.drg_report.specs.Texts.{report_text}
+use Rattle.drg_report.specs.declared.verdict.Verdict.{Verdict}
+use Rattle.drg_report.specs.declared.verdict.Verdict.TheVariants as verdict
+use Rattle.drg_engine.specs.Laws.{NoneIsWide}
+use Rattle.drg_engine.specs.Verdicts.{Runs, VerdictHolds}
 use Rattle.drg_program.specs.declared.status.Status.{Status}
-use Rattle.drg_program.specs.declared.status.Status.TheVariants.{Survivor, Infeasible}
+use Rattle.drg_program.specs.declared.status.Status.TheVariants.{Survivor, Infeasible, Undecided}
 
 -- less one LF or CR LF at the end
 abbrev pub without_line_end : List ℕ → List ℕ
@@ -35,26 +34,34 @@ HasNoArray bytes = (a : Entries) → IsArrayOf bytes a → ⊥
 abbrev pub IsFaultAt : List ℕ → ℕ → Type 0
 IsFaultAt bytes at = HasNoArray bytes × (kind : ArrayKind) × IsFault (without_line_end bytes) (record { at = at; kind = kind })
 
--- the array fails the claim, one of the tests first, degree, order and cross, and no claim that comes before it
-pub record FailsFirst (a : Entries) (claim : Claim) : Type 0 where
-  pub basic : IsBasic claim
-  pub fails : Fails a claim
-  pub first : (earlier : Claim) → ComesBefore earlier claim → Fails a earlier → ⊥
+-- the status with which a verdict is told
+abbrev pub status_of : Verdict → Status
+status_of (verdict.Infeasible claim class derivation pending) = Infeasible
+status_of (verdict.Undecided passed pending) = Undecided
+status_of (verdict.Survivor passed numbers) = Survivor
 
--- the array fails no claim of these tests
-abbrev pub Passes : Entries → Type 0
-Passes a = (claim : Claim) → IsBasic claim → Fails a claim → ⊥
+-- the derivation of an infeasible array is written as a text that `replay` reads as this derivation
+abbrev pub IsReadable : Verdict → Type 0
+IsReadable (verdict.Infeasible claim class derivation pending) = IsDerivationText (derivation_text derivation) derivation
+IsReadable (verdict.Undecided passed pending) = ⊤
+IsReadable (verdict.Survivor passed numbers) = ⊤
 
--- the derivation shows that no graph has the array: it derives the first claim that the array fails, by counting
-pub record Excludes (a : Entries) (δ : Content) : Type 0 where
-  pub array : δ.array ≡ a
-  pub claim : FailsFirst a δ.claim
-  pub text : IsDerivationText (derivation_text δ) δ
-  pub accepted : answer_of δ ≡ Ok Counting
-  pub graph : NoGraph a
+-- what a status says where no number is too wide: some test that runs doesn't hold, or each holds
+abbrev pub IsDecidedAs : Entries → List Test → Status → Type 0
+IsDecidedAs a tests Infeasible = (t : Test) × Runs tests t × ¬ Holds a t
+IsDecidedAs a tests Survivor = (t : Test) → Runs tests t → Holds a t
+IsDecidedAs a tests status = ⊥
 
--- the status and the report of an array
-abbrev pub Judges : Entries → Status → List ℕ → Type 0
-Judges a Survivor text = Passes a × (text ≡ survivor_text a)
-Judges a Infeasible text = (δ : Content) × Excludes a δ × (text ≡ infeasible_text δ)
-Judges a status text = ⊥
+-- The status and the report of an array, where these tests are selected: those of a right verdict. What a right verdict says
+-- stands in specs/Verdicts.antt of drg_engine. Of an infeasible array it says that the array fails the claim and no claim
+-- before it, that its derivation is accepted with the class that is written, and, where this is the class of counting, that no
+-- graph has the array. Of a survivor it says that each test that runs holds, and that these are its numbers. Of an undecided
+-- one it says which number is too wide, and that the tests before it hold. Where no number is too wide, the array is
+-- infeasible exactly where a test that runs doesn't hold, and else a survivor.
+pub record Judges (a : Entries) (tests : List Test) (status : Status) (text : List ℕ) : Type 0 where
+  pub verdict : Verdict
+  pub holds : VerdictHolds a tests verdict
+  pub readable : IsReadable verdict
+  pub status_is : status ≡ status_of verdict
+  pub text_is : text ≡ report_text a verdict
+  pub decided : NoneIsWide a → IsDecidedAs a tests status

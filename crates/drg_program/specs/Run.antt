@@ -43,17 +43,17 @@ ReadsInput bytes (Err fault) = ⊤
 
 -- the bytes are in the grammar of the command's input
 abbrev pub IsInGrammar : Command → List ℕ → Type 0
-IsInGrammar Check bytes = (a : Entries) × IsArrayOf bytes a
+IsInGrammar (Check tests) bytes = (a : Entries) × IsArrayOf bytes a
 IsInGrammar Replay bytes = (n : ℕ) × (δ : Content) × Begins bytes n δ
 
 -- the bytes aren't in that grammar, and the first fault is in this line and place, where place 0 is the whole line
 abbrev pub IsFault : Command → List ℕ → ℕ → ℕ → Type 0
-IsFault Check bytes line at = (line ≡ 1) × IsFaultAt bytes at
+IsFault (Check tests) bytes line at = (line ≡ 1) × IsFaultAt bytes at
 IsFault Replay bytes line at = (at ≡ 0) × IsFaultInLine bytes line
 
 -- the status and the report of these bytes
 abbrev pub IsReport : Command → List ℕ → Status → List ℕ → Type 0
-IsReport Check bytes status text = (a : Entries) × IsArrayOf bytes a × Judges a status text
+IsReport (Check tests) bytes status text = (a : Entries) × IsArrayOf bytes a × Judges a tests status text
 IsReport Replay bytes status text = Replays bytes status text
 
 -- the report of these bytes, or the fault that they have
@@ -88,8 +88,9 @@ Answers command bytes Memory old new = ⊤
 
 -- the status is an answer of the command
 abbrev pub IsVerdict : Status → Command → Type 0
-IsVerdict Survivor Check = ⊤
-IsVerdict Infeasible Check = ⊤
+IsVerdict Survivor (Check tests) = ⊤
+IsVerdict Infeasible (Check tests) = ⊤
+IsVerdict Undecided (Check tests) = ⊤
 IsVerdict Accepted Replay = ⊤
 IsVerdict Rejected Replay = ⊤
 IsVerdict Undecided Replay = ⊤

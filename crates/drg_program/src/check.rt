@@ -1,19 +1,20 @@
 ghost use Rattle.std.specs.Prelude.{◌≡◌, IfOk};
-ghost use Rattle.drg_program.specs.Check.{FailsFirst, Judges, Passes, without_line_end};
+ghost use Rattle.drg_derivation.specs.Text.{IsDerivationText, derivation_text};
+ghost use Rattle.drg_program.specs.Check.{IsReadable, Judges, status_of as the_status, without_line_end};
 ghost use Rattle.drg_program.specs.Run.{Reports};
+ghost use Rattle.drg_program.specs.declared.command.Command.TheVariants.{Check};
 
 use crate::Status;
-use crate::command::Command;
-use crate::report::{Report, ReportFault, write_infeasible, write_survivor};
-use drg_array::{Array, Claim};
-use drg_counting::basic;
+use crate::report::{Report, ReportFault};
+use drg_array::{Array, TestSet};
 use drg_derivation::{Derivation, one_text_law};
-use drg_replay::graph_law;
+use drg_engine::{completeness_law, judge};
+use drg_report::{Verdict, render};
 use std::alloc::{AllocError, Global};
 
-/// Judges the one array that the input holds.
-pub fn check(alloc: Global, bytes: &[u8]) -> Result<Report, ReportFault>
-    ensures { Reports Command.Check bytes.now result }
+/// Judges the one array that the input holds, by the tests that always run and these.
+pub fn check(alloc: Global, bytes: &[u8], tests: &TestSet) -> Result<Report, ReportFault>
+    ensures { Reports (Check tests.now) bytes.now result }
 {
     let array = match Array::read(without_end(bytes)) {
         Ok(array) => array,
@@ -24,10 +25,7 @@ pub fn check(alloc: Global, bytes: &[u8]) -> Result<Report, ReportFault>
             });
         }
     };
-    let report = match basic(&array) {
-        Some(claim) => exclude(alloc, array, claim)?,
-        None => survive(alloc, &array)?,
-    };
+    let report = report_on(alloc, &array, tests)?;
     Ok(report)
 }
 
@@ -42,33 +40,38 @@ fn without_end(bytes: &[u8]) -> &[u8]
     }
 }
 
-/// The report of an array that fails this claim, and none before it.
-fn exclude(alloc: Global, array: Array, claim: Claim) -> Result<Report, AllocError>
-    requires { FailsFirst array claim }
-    ensures { IfOk result (λ report. Judges array report.status report.text.items) }
+/// The status and the text of the array's verdict.
+fn report_on(alloc: Global, array: &Array, tests: &TestSet) -> Result<Report, AllocError>
+    ensures { IfOk result (λ report. Judges array.now tests.now report.status report.text.items) }
 {
-    graph_law();
-    let Some(derivation) = Derivation::make(array, claim, Vec::new(alloc)) else {
-        unreachable!();
-    };
-    one_text_law();
-    let mut text = Vec::new(alloc);
-    write_infeasible(&derivation, &mut text)?;
+    completeness_law();
+    let verdict = judge(alloc, array, tests)?;
+    let text = render(alloc, array, &verdict)?;
     Ok(Report {
-        status: Status::Infeasible,
+        status: status_of(&verdict),
         text,
     })
 }
 
-/// The report of an array that fails no claim.
-fn survive(alloc: Global, array: &Array) -> Result<Report, AllocError>
-    requires { Passes array.now }
-    ensures { IfOk result (λ report. Judges array.now report.status report.text.items) }
+/// The status with which a verdict is told.
+fn status_of(verdict: &Verdict) -> Status
+    ensures status { result ≡ the_status verdict.now }
+    ensures readable { IsReadable verdict.now }
 {
-    let mut text = Vec::new(alloc);
-    write_survivor(array, &mut text)?;
-    Ok(Report {
-        status: Status::Survivor,
-        text,
-    })
+    match verdict {
+        Verdict::Infeasible { derivation, .. } => {
+            see_text(derivation);
+            Status::Infeasible
+        }
+        Verdict::Undecided { .. } => Status::Undecided,
+        Verdict::Survivor { .. } => Status::Survivor,
+    }
+}
+
+/// What is written of a derivation is a text of it.
+fn see_text(derivation: &Derivation)
+    ensures { IsDerivationText (derivation_text derivation.now) derivation.now }
+{
+    one_text_law();
+    let _seen = derivation.claim;
 }

@@ -3,8 +3,9 @@
 //! [`run`] reads the words of a command and its file, and writes one report. Its contract says what
 //! each [`Status`] means of the input, when each refusal comes, and which bytes were written.
 //! The words stand in `specs/Words.antt`, what `check` finds of an array in `specs/Check.antt`, what
-//! `replay` finds of a derivation in `specs/Replay.antt`, the texts of reports in `specs/Report.antt`,
-//! and how these make the answer of a run in `specs/Run.antt`.
+//! `replay` finds of a derivation in `specs/Replay.antt` with its texts in `specs/Report.antt`, and how
+//! these make the answer of a run in `specs/Run.antt`. The verdicts on an array and their texts are
+//! those of `drg_engine` and `drg_report`.
 #![tactic(auto)]
 
 mod check;
@@ -22,6 +23,7 @@ ghost use Rattle.drg_program.specs.Statuses.{IsEarly};
 ghost use Rattle.drg_program.specs.Words.{IsCommand, IsCommandOn, words_of};
 
 use check::check;
+pub use command::words_law;
 use command::{Command, command_of};
 use drg_outside::{Inputs, Sink, write_all};
 use input::{InputFault, read_input};
@@ -34,6 +36,13 @@ use std::alloc::Global;
 pub const INPUT_LIMIT: usize = 67_108_864;
 
 /// Runs the command of these words, which are those after the program's name.
+///
+/// The clause `answer` says what the status and the written bytes mean. After `check` they are those of a
+/// right verdict on the array of the input, by the tests that always run and those that are selected:
+/// `infeasible` says that the array fails the claim that is written and no claim before it, that the
+/// derivation that is written is accepted with its class, and, where the class is counting, that no finite
+/// graph is distance-regular with the array. After `replay` they are the answer of the derivation at the
+/// front of the input: `accepted` by counting says of its array, too, that no such graph has it.
 pub fn run<I: Inputs, K: Sink>(
     alloc: Global,
     words: &[String],
@@ -126,7 +135,7 @@ fn report_of(alloc: Global, command: Command, bytes: &[u8]) -> Result<Report, Re
     ensures { Reports command bytes.now result }
 {
     match command {
-        Command::Check => check(alloc, bytes),
+        Command::Check { tests } => check(alloc, bytes, &tests),
         Command::Replay => replay_input(alloc, bytes),
     }
 }

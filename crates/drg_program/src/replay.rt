@@ -1,9 +1,9 @@
 ghost use Rattle.std.specs.Prelude.{IfOk};
 ghost use Rattle.drg_program.specs.Replay.{Concludes, Tells};
 ghost use Rattle.drg_program.specs.Run.{Reports};
+ghost use Rattle.drg_program.specs.declared.command.Command.TheVariants.{Replay};
 
 use crate::Status;
-use crate::command::Command;
 use crate::report::{Report, ReportFault, write_accepted, write_open, write_rejected, write_wide};
 use drg_array::{Claim, Class};
 use drg_derivation::{Derivation, DerivationFault, read, refusal_law};
@@ -12,7 +12,7 @@ use std::alloc::{AllocError, Global};
 
 /// Answers the derivation at the front of the input.
 pub fn replay_input(alloc: Global, bytes: &[u8]) -> Result<Report, ReportFault>
-    ensures { Reports Command.Replay bytes.now result }
+    ensures { Reports Replay bytes.now result }
 {
     refusal_law();
     let (derivation, _) = match read(alloc, bytes) {

@@ -1,10 +1,10 @@
 ghost use Rattle.std.specs.Prelude.{◌≡◌, ◌++◌, OnOk};
-ghost use Rattle.drg_program.specs.Report.{accepted_text, claim_line, class_text, infeasible_text, number_line, open_text, rejected_text, survivor_text, wide_text};
+ghost use Rattle.drg_program.specs.Report.{accepted_text, number_line, open_text, rejected_text, wide_text};
 ghost use Rattle.drg_program.specs.declared.report.ReportFault.TheVariants.{Memory};
 
 use crate::Status;
-use drg_array::{Array, Claim, Class};
-use drg_derivation::Derivation;
+use drg_array::{Claim, Class};
+use drg_report::write_claim_line;
 use itoa::Buffer;
 use std::alloc::AllocError;
 
@@ -30,33 +30,11 @@ impl From<AllocError> for ReportFault {
     }
 }
 
-/// Appends the report of an array that fails no claim.
-pub fn write_survivor(array: &Array, out: &mut Vec<u8>) -> Result<(), AllocError>
-    ensures { OnOk result (out.new.items ≡ out.old.items ++ survivor_text array.now) }
-{
-    out.extend_from_slice(b"verdict survivor\narray ")?;
-    array.write_text(out)?;
-    out.extend_from_slice(b"\npassed first degree order cross\n")
-}
-
-/// Appends the report of an array with this derivation: its text, and the verdict on its claim.
-pub fn write_infeasible(derivation: &Derivation, out: &mut Vec<u8>) -> Result<(), AllocError>
-    ensures { OnOk result (out.new.items ≡ out.old.items ++ infeasible_text derivation.now) }
-{
-    derivation.write_text(out)?;
-    write_claim(
-        b"verdict infeasible ",
-        derivation.claim,
-        Class::Counting,
-        out,
-    )
-}
-
 /// Appends the answer to a derivation that is accepted.
 pub fn write_accepted(claim: Claim, class: Class, out: &mut Vec<u8>) -> Result<(), AllocError>
     ensures { OnOk result (out.new.items ≡ out.old.items ++ accepted_text claim class) }
 {
-    write_claim(b"accepted ", claim, class, out)
+    write_claim_line(b"accepted ", claim, class, out)
 }
 
 /// Appends the answer to a derivation with a line that is not met.
@@ -78,31 +56,6 @@ pub fn write_wide(line: u64, out: &mut Vec<u8>) -> Result<(), AllocError>
     ensures { OnOk result (out.new.items ≡ out.old.items ++ wide_text line) }
 {
     write_number(b"undecided wide ", line, out)
-}
-
-/// Appends these words, the claim and its class, and a line end.
-fn write_claim(
-    words: &[u8],
-    claim: Claim,
-    class: Class,
-    out: &mut Vec<u8>,
-) -> Result<(), AllocError>
-    ensures { OnOk result (out.new.items ≡ out.old.items ++ claim_line words.now claim class) }
-{
-    out.extend_from_slice(words)?;
-    claim.write_text(out)?;
-    out.extend_from_slice(b" ")?;
-    write_class(class, out)?;
-    out.extend_from_slice(b"\n")
-}
-
-fn write_class(class: Class, out: &mut Vec<u8>) -> Result<(), AllocError>
-    ensures { OnOk result (out.new.items ≡ out.old.items ++ class_text class) }
-{
-    match class {
-        Class::Counting => out.extend_from_slice(b"counting"),
-        Class::Spectral => out.extend_from_slice(b"spectral"),
-    }
 }
 
 /// Appends these words, the number of a line, and a line end.

@@ -6,7 +6,7 @@ use std::fmt;
 /// How a run ended.
 #[derive(Clone, Copy, Debug, PartialEq, Eq)]
 pub enum Status {
-    /// The array passes every test.
+    /// The array passes every test that ran.
     Survivor,
     /// The array fails a test, and the report derives it.
     Infeasible,
@@ -14,7 +14,8 @@ pub enum Status {
     Accepted,
     /// A line of the derivation isn't met, or its claim isn't closed at the end.
     Rejected,
-    /// A work number of a line is too wide to judge the derivation.
+    /// A number on which the answer rests is too wide to be computed: a size or an intersection number
+    /// of the array, or a work number of a line of the derivation.
     Undecided,
     /// The words are no command.
     Usage,

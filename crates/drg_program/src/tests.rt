@@ -6,6 +6,19 @@ use std::test::Fail;
 /// Room of each test's sink.
 const ROOM: usize = 1000;
 
+/// The report of the Petersen graph's array.
+const PETERSEN: &str =
+    "verdict survivor\narray {3,2;1,1}\npassed first degree order cross size intersect handshake induced triangles\nn 10\nsizes 1 3 6\n";
+
+/// The report of `{3,2;1,2}`: 7 vertices with 3 neighbours each.
+const HANDSHAKE: &str =
+    "drg 1\narray 2 3 2 1 2\nclaim handshake 1\nk 1 3 3\nend\nverdict infeasible handshake 1 counting\n";
+
+/// And without the test handshake: 3 vertices at distance 2, each with one neighbour among them.
+const INDUCED: &str =
+    "drg 1\narray 2 3 2 1 2\nclaim induced 2 1\nk 1 3 3\np 2 1 0 2 1\np 2 2 1 1 1\nend\nverdict infeasible induced 2 1 counting\n";
+
+/// A derivation of degree for `{3,3;1,1}`.
 const DEGREE: &str = "drg 1\narray 2 3 3 1 1\nclaim degree 1\nend\n";
 
 /// A derivation of mult for `{4,3;1,1}`.
@@ -39,44 +52,85 @@ fn run_on(
 }
 
 #[test]
-fn reports_of_small_arrays(rt: HostRuntime) -> Result<(), Fail> {
+fn infeasible_arrays(rt: HostRuntime) -> Result<(), Fail> {
     let alloc = rt.alloc();
-    let bad = |at| Status::BadInput { line: 1, at };
     let cases = [
         (
-            "{3,3;1,1}\n",
-            Status::Infeasible,
-            "drg 1\narray 2 3 3 1 1\nclaim degree 1\nend\nverdict infeasible degree 1 counting\n",
+            "{3,2;2,1}\n",
+            "drg 1\narray 2 3 2 2 1\nclaim first\nend\nverdict infeasible first counting\n",
+            "accepted first counting\n",
         ),
         (
-            "{3,2;2,1}\n",
-            Status::Infeasible,
-            "drg 1\narray 2 3 2 2 1\nclaim first\nend\nverdict infeasible first counting\n",
+            "{3,3;1,1}\n",
+            "drg 1\narray 2 3 3 1 1\nclaim degree 1\nend\nverdict infeasible degree 1 counting\n",
+            "accepted degree 1 counting\n",
         ),
         (
             "{4,1,2;1,1,1}\n",
-            Status::Infeasible,
             "drg 1\narray 3 4 1 2 1 1 1\nclaim order 1\nend\nverdict infeasible order 1 counting\n",
+            "accepted order 1 counting\n",
         ),
         (
             "{6,2,1;1,3,3}\n",
-            Status::Infeasible,
             "drg 1\narray 3 6 2 1 1 3 3\nclaim cross 2 1\nend\nverdict infeasible cross 2 1 counting\n",
+            "accepted cross 2 1 counting\n",
         ),
+        // 5·4 isn't divisible by 3.
         (
-            "{3,2;1,1}\r\n",
-            Status::Survivor,
-            "verdict survivor\narray {3,2;1,1}\npassed first degree order cross\n",
+            "{5,4;1,3}\n",
+            "drg 1\narray 2 5 4 1 3\nclaim size 2\nk 1 5\nend\nverdict infeasible size 2 counting\n",
+            "accepted size 2 counting\n",
         ),
+        // 1·2 + 2·2 - 4·1 - 2·2 is negative.
+        (
+            "{4,1;1,2}\n",
+            "drg 1\narray 2 4 1 1 2\nclaim intersect 2 2 2\np 2 1 0 2 2\nend\nverdict infeasible intersect 2 2 2 counting\n",
+            "accepted intersect 2 2 2 counting\n",
+        ),
+        // 7·3 is odd.
+        ("{3,2;1,2}\n", HANDSHAKE, "accepted handshake 1 counting\n"),
+        // 5·1 is odd.
+        (
+            "{5,3,1;1,1,1}\n",
+            "drg 1\narray 3 5 3 1 1 1 1\nclaim induced 1 1\nk 1 5 15 15\np 1 1 1 1 3 0\nend\nverdict infeasible induced 1 1 counting\n",
+            "accepted induced 1 1 counting\n",
+        ),
+        // 16·5·2 isn't divisible by 6.
+        (
+            "{5,2;1,1}\n",
+            "drg 1\narray 2 5 2 1 1\nclaim triangles 1\nk 1 5 10\np 1 1 1 2 2\nend\nverdict infeasible triangles 1 counting\n",
+            "accepted triangles 1 counting\n",
+        ),
+    ];
+    for (content, written, line) in cases {
+        let (status, report) = run_on(alloc, &["check", "f"], content.as_bytes(), (&[], &[]))?;
+        assert_eq!(rt; status, Status::Infeasible, "{content:?}");
+        assert_eq!(rt; report.written(), written.as_bytes(), "{content:?}");
+        // The report begins with its derivation.
+        let (answer, sink) = run_on(alloc, &["replay", "f"], report.written(), (&[], &[]))?;
+        assert_eq!(rt; answer, Status::Accepted, "{content:?}");
+        assert_eq!(rt; sink.written(), line.as_bytes(), "{content:?}");
+    }
+    Ok(())
+}
+
+#[test]
+fn other_arrays(rt: HostRuntime) -> Result<(), Fail> {
+    let alloc = rt.alloc();
+    let bad = |at| Status::BadInput { line: 1, at };
+    let cases = [
+        ("{3,2;1,1}\r\n", Status::Survivor, PETERSEN),
+        (" { 3, 2; 1, 1 } \n", Status::Survivor, PETERSEN),
         (
             "{3;1}",
             Status::Survivor,
-            "verdict survivor\narray {3;1}\npassed first degree order cross\n",
+            "verdict survivor\narray {3;1}\npassed first degree order cross size intersect handshake induced triangles\nn 4\nsizes 1 3\n",
         ),
+        // k_10 = 4095·4094^9 is below 2^120, and the product of k_10 and b_10 is above 2^127.
         (
-            " { 3, 2; 1, 1 } \n",
-            Status::Survivor,
-            "verdict survivor\narray {3,2;1,1}\npassed first degree order cross\n",
+            "{4095,4094,4094,4094,4094,4094,4094,4094,4094,4094,4094,4094;1,1,1,1,1,1,1,1,1,1,1,1}\n",
+            Status::Undecided,
+            "verdict undecided\narray {4095,4094,4094,4094,4094,4094,4094,4094,4094,4094,4094,4094;1,1,1,1,1,1,1,1,1,1,1,1}\npassed first degree order cross\npending size wide k 11\n",
         ),
         ("{3,2;1,1}\n\n", bad(10), ""),
         ("{3,2;1,1}\r", bad(10), ""),
@@ -97,20 +151,46 @@ fn reports_of_small_arrays(rt: HostRuntime) -> Result<(), Fail> {
 }
 
 #[test]
-fn reports_are_accepted(rt: HostRuntime) -> Result<(), Fail> {
+fn selected_tests(rt: HostRuntime) -> Result<(), Fail> {
     let alloc = rt.alloc();
+    // The array {3,2;1,2} fails each of the three tests that can be selected.
+    let (none, some) = (Status::Survivor, Status::Infeasible);
     let cases = [
-        ("{3,2;2,1}\n", "accepted first counting\n"),
-        ("{3,3;1,1}\n", "accepted degree 1 counting\n"),
-        ("{4,1,2;1,1,1}\n", "accepted order 1 counting\n"),
-        ("{6,2,1;1,3,3}\n", "accepted cross 2 1 counting\n"),
+        (
+            "none",
+            "{3,2;1,2}\n",
+            none,
+            "verdict survivor\narray {3,2;1,2}\npassed first degree order cross size intersect\nn 7\nsizes 1 3 3\n",
+        ),
+        ("handshake", "{3,2;1,2}\n", some, HANDSHAKE),
+        ("induced", "{3,2;1,2}\n", some, INDUCED),
+        (
+            "triangles",
+            "{3,2;1,2}\n",
+            some,
+            "drg 1\narray 2 3 2 1 2\nclaim triangles 2\nk 1 3 3\np 2 1 0 2 1\np 2 2 1 1 1\nend\nverdict infeasible triangles 2 counting\n",
+        ),
+        ("handshake,induced", "{3,2;1,2}\n", some, HANDSHAKE),
+        ("triangles,handshake", "{3,2;1,2}\n", some, HANDSHAKE),
+        ("triangles,induced", "{3,2;1,2}\n", some, INDUCED),
+        (
+            "induced,triangles,handshake",
+            "{3,2;1,2}\n",
+            some,
+            HANDSHAKE,
+        ),
+        (
+            "handshake",
+            "{5,2;1,1}\n",
+            none,
+            "verdict survivor\narray {5,2;1,1}\npassed first degree order cross size intersect handshake\nn 16\nsizes 1 5 10\n",
+        ),
     ];
-    for (content, line) in cases {
-        let (status, report) = run_on(alloc, &["check", "f"], content.as_bytes(), (&[], &[]))?;
-        assert_eq!(rt; status, Status::Infeasible, "{content:?}");
-        let (answer, sink) = run_on(alloc, &["replay", "f"], report.written(), (&[], &[]))?;
-        assert_eq!(rt; answer, Status::Accepted, "{content:?}");
-        assert_eq!(rt; sink.written(), line.as_bytes(), "{content:?}");
+    for (list, content, status, written) in cases {
+        let words = ["check", "--tests", list, "f"];
+        let (answer, sink) = run_on(alloc, &words, content.as_bytes(), (&[], &[]))?;
+        assert_eq!(rt; answer, status, "{list} {content:?}");
+        assert_eq!(rt; sink.written(), written.as_bytes(), "{list} {content:?}");
     }
     Ok(())
 }
@@ -144,12 +224,6 @@ fn answers_to_derivations(rt: HostRuntime) -> Result<(), Fail> {
             "drg 1\narray 2 3 3 1 1\nclaim degree 1\nk 1 3 8\nend\n",
             Status::Rejected,
             "rejected line 4\n",
-        ),
-        // 5·4 isn't divisible by 3.
-        (
-            "drg 1\narray 2 5 4 1 3\nclaim size 2\nk 1 5\nend\n",
-            Status::Accepted,
-            "accepted size 2 counting\n",
         ),
         // The double of 2^126 is 2^127.
         (
@@ -243,7 +317,7 @@ fn calls_that_fail(rt: HostRuntime) -> Result<(), Fail> {
 #[test]
 fn words_that_are_no_command(rt: HostRuntime) -> Result<(), Fail> {
     let alloc = rt.alloc();
-    let cases: [&[&str]; 17] = [
+    let cases: [&[&str]; 24] = [
         &[],
         &[""],
         &["check"],
@@ -253,9 +327,16 @@ fn words_that_are_no_command(rt: HostRuntime) -> Result<(), Fail> {
         &["check", "-"],
         &["check", "f", "f"],
         &["check", "--json", "f"],
+        &["check", "--tests", "handshake"],
+        &["check", "--tests", "handshake,handshake", "f"],
+        &["check", "--tests", "mult", "f"],
+        &["check", "--tests", "", "f"],
+        &["check", "f", "--tests", "none"],
+        &["check", "--tests", "none", "-f"],
         &["replay"],
         &["replay", "-x"],
         &["replay", "f", "f"],
+        &["replay", "--tests", "none", "f"],
         &["Replay", "f"],
         &["table", "f"],
         &["sample", "1", "1"],
