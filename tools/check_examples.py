@@ -1,0 +1,205 @@
+#!/usr/bin/env python3
+"""Runs the program on every example, and compares what it prints and its exit number.
+
+Usage: python3 tools/check_examples.py
+
+- Each array of examples/graphs is a survivor. The table of examples/README.md gives its array and its
+  number of vertices; the sizes follow from the array. Each file has a row, and each row a file.
+- Each of the nine arrays of examples/fails fails the test of its name first: the report is the file of
+  that name in examples/derivations and the verdict on its claim. The report is the same where that test
+  is the only one selected. Where it is one that can be selected and none is, the array is a survivor.
+- Each derivation, and each such report, is accepted by `drg replay` and by tools/replay.py.
+- Each array of examples whose name begins with wide is undecided, by the number that WIDE names.
+- examples/petersen.txt and examples/degree.txt are copies of the files of their names further down.
+- Each example of man/drg.1 prints what the page shows.
+
+Each of these is one case. The last line printed is 'N passed, M failed', and the exit status is 0 where
+M is 0.
+"""
+import os
+import re
+import subprocess
+import sys
+import tempfile
+from pathlib import Path
+from typing import List, NamedTuple
+
+TOP = Path(__file__).resolve().parent.parent
+EXAMPLES = TOP / "examples"
+ALWAYS_RUN = ["first", "degree", "order", "cross", "size", "intersect"]
+SELECTABLE = ["handshake", "induced", "triangles"]
+TESTS = ALWAYS_RUN + SELECTABLE
+# Each array with a number past 2^127-1: the tests that it passed, and the number.
+WIDE = {
+    "wide": ("first degree order cross", "size wide k 11"),
+    "wide_vertices": ("first degree order cross", "size wide n"),
+    "wide_intersection": ("first degree order cross size", "intersect wide p 0 11 10"),
+}
+COPIES = {"petersen": "graphs", "degree": "fails"}
+ROW = re.compile(r"\| [^|]+ \| `(?P<file>\w+)` \| `(?P<array>\{[\d,;]+\})` \| (?P<n>\d+) \|")
+EXAMPLE = re.compile(r"^\.EX\n\$ (?P<command>.*)\n(?P<printed>(?:.*\n)*?)\.EE$", re.MULTILINE)
+SURVIVOR, INFEASIBLE, UNDECIDED, ACCEPTED = 0, 1, 3, 0
+LIMIT_SECONDS = 3600
+
+
+class Ran(NamedTuple):
+    """What a command printed on standard output and standard error, in that order, and its exit number."""
+
+    lines: List[str]
+    status: int
+
+
+def run(*words):
+    """Runs a command at the top of the repository."""
+    done = subprocess.run(
+        [str(word) for word in words],
+        cwd=TOP,
+        stdin=subprocess.DEVNULL,
+        stdout=subprocess.PIPE,
+        stderr=subprocess.PIPE,
+        timeout=LIMIT_SECONDS,
+    )
+    text = (done.stdout + done.stderr).decode("utf-8", "replace")
+    lines = text.split("\n")[:-1] if text.endswith("\n") else text.split("\n") if text else []
+    return Ran(lines, done.returncode)
+
+
+def drg(*words):
+    return run(TOP / "bin" / "drg", *words)
+
+
+def holds(case, wanted, found):
+    """Whether a command printed and answered what is wanted; where it didn't, says so."""
+    if wanted == found:
+        return True
+    print(case)
+    for title, ran in (("wanted:", wanted), ("found: ", found)):
+        print("\n".join(f"  {title} {line}" for line in ran.lines + [f"exit {ran.status}"]))
+    return False
+
+
+def is_true(case, value):
+    """Whether a case without a command holds; where it doesn't, says so."""
+    if not value:
+        print(case)
+    return value
+
+
+def names_in(folder):
+    return {path.stem for path in (EXAMPLES / folder).glob("*.txt")}
+
+
+def content(name):
+    path = EXAMPLES / f"{name}.txt"
+    return path.read_text(encoding="utf-8") if path.is_file() else ""
+
+
+def sizes(array):
+    """k_0 .. k_d, by `k_i c_i = k_(i-1) b_(i-1)`."""
+    b, c = ([int(x) for x in side.split(",")] for side in array.strip("{}").split(";"))
+    k = [1]
+    for up, down in zip(b, c):
+        k.append(k[-1] * up // down)
+    return k
+
+
+def survivor(array, n, k, passed):
+    lines = ["verdict survivor", f"array {array}", "passed " + " ".join(passed), f"n {n}"]
+    return Ran(lines + ["sizes " + " ".join(map(str, k))], SURVIVOR)
+
+
+def graph_cases():
+    """The arrays of graphs, against the table."""
+    rows = {row["file"]: row for row in ROW.finditer((EXAMPLES / "README.md").read_text(encoding="utf-8"))}
+    same = rows.keys() == names_in("graphs")
+    yield is_true("examples/README.md: its table has each file of examples/graphs and no other", same)
+    for file, row in sorted(rows.items()):
+        array, k = row["array"], sizes(row["array"])
+        name = f"examples/graphs/{file}.txt"
+        yield is_true(f"{name}: is the array of the table", content(f"graphs/{file}") == array + "\n")
+        yield is_true(f"examples/README.md: n of {file} is the sum of its sizes", int(row["n"]) == sum(k))
+        yield holds(f"drg check {name}", survivor(array, row["n"], k, TESTS), drg("check", name))
+
+
+def failing_cases():
+    """The arrays that fail a test, against the derivations."""
+    yield is_true("examples/fails: has one array for each test", names_in("fails") == set(TESTS))
+    yield is_true("examples/derivations: has one derivation for each test", names_in("derivations") == set(TESTS))
+    for test in TESTS:
+        name = f"examples/fails/{test}.txt"
+        derivation = content(f"derivations/{test}").split("\n")[:-1]
+        claim = claim_of(derivation)
+        yield is_true(f"examples/derivations/{test}.txt: claims {test}", claim.split(" ")[0] == test)
+        wanted = Ran(derivation + [f"verdict infeasible {claim} counting"], INFEASIBLE)
+        yield holds(f"drg check {name}", wanted, drg("check", name))
+        if test in SELECTABLE:
+            yield holds(f"drg check --tests {test} {name}", wanted, drg("check", "--tests", test, name))
+            array = content(f"fails/{test}").strip()
+            k = sizes(array)
+            wanted = survivor(array, sum(k), k, ALWAYS_RUN)
+        yield holds(f"drg check --tests none {name}", wanted, drg("check", "--tests", "none", name))
+
+
+def claim_of(derivation):
+    """The claim of a derivation, as an answer names it."""
+    return derivation[2].removeprefix("claim ") if len(derivation) > 2 else ""
+
+
+def replay_cases():
+    """The derivations, and the reports of the arrays that fail, by both replayers."""
+    with tempfile.TemporaryDirectory() as folder:
+        for test in TESTS:
+            derivation = EXAMPLES / "derivations" / f"{test}.txt"
+            report = Path(folder) / f"{test}.txt"
+            printed = drg("check", f"examples/fails/{test}.txt").lines
+            report.write_text("".join(line + "\n" for line in printed), encoding="utf-8")
+            claim = claim_of(content(f"derivations/{test}").split("\n"))
+            wanted = Ran([f"accepted {claim} counting"], ACCEPTED)
+            for path in (derivation, report):
+                yield holds(f"drg replay {path}", wanted, drg("replay", path))
+                yield holds(f"tools/replay.py {path}", wanted, run(sys.executable, "tools/replay.py", path))
+
+
+def wide_cases():
+    """The arrays that are undecided."""
+    found = {path.stem for path in EXAMPLES.glob("wide*.txt")}
+    yield is_true("examples: has the wide arrays and no other", found == WIDE.keys())
+    for name, (passed, pending) in WIDE.items():
+        array = content(name).strip()
+        wanted = Ran(["verdict undecided", f"array {array}", f"passed {passed}", f"pending {pending}"], UNDECIDED)
+        yield holds(f"drg check examples/{name}.txt", wanted, drg("check", f"examples/{name}.txt"))
+
+
+def copy_cases():
+    for name, folder in COPIES.items():
+        same = content(name) == content(f"{folder}/{name}") != ""
+        yield is_true(f"examples/{name}.txt: is examples/{folder}/{name}.txt", same)
+
+
+def page_cases():
+    """The examples of the manual page: a command each, and what it prints."""
+    page = (TOP / "man" / "drg.1").read_text(encoding="utf-8").replace("\\-", "-")
+    examples = list(EXAMPLE.finditer(page))
+    yield is_true("man/drg.1: has examples of one command each", 0 < len(examples) == page.count("\n.EX\n"))
+    for example in examples:
+        found = run("bash", "-c", example["command"])
+        wanted = Ran(example["printed"].split("\n")[:-1], found.status)
+        yield holds(f"man/drg.1: {example['command']}", wanted, found)
+
+
+def main():
+    subprocess.run([TOP / "bin" / "drg"], stdout=subprocess.DEVNULL, check=False)  # builds it once, and says so
+    passed = failed = 0
+    for cases in (graph_cases, failing_cases, replay_cases, wide_cases, copy_cases, page_cases):
+        for held in cases():
+            if held:
+                passed += 1
+            else:
+                failed += 1
+    print(f"{passed} passed, {failed} failed")
+    return 0 if failed == 0 and passed > 0 else 1
+
+
+if __name__ == "__main__":
+    os.environ["LC_ALL"] = "C.UTF-8"
+    sys.exit(main())
