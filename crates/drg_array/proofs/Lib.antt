@@ -8,6 +8,7 @@ mod KindLaws
 mod FaultLaws
 mod TextLaws
 mod TestListLaws
+pub mod TestTexts
 mod Told
 mod ConditionProofs
 mod ExampleProofs

@@ -1,9 +1,11 @@
--- Laws of the grammar of array texts.
+-- Laws of the grammars of array texts and of lists of tests.
 use Rattle.std.specs.Prelude.{◌≡◌, ℕ, List, ◌⊎◌}
 use Rattle.drg_array.specs.Entries.{Entries, IsArray}
 use Rattle.drg_array.specs.Text.{IsArrayText, array_text}
 use Rattle.drg_array.specs.Faults.{IsFault}
+use Rattle.drg_array.specs.TestLists.{IsTestList}
 use Rattle.drg_array.specs.declared.fault.ArrayFault.{ArrayFault}
+use Rattle.drg_array.specs.declared.test.Test.{Test}
 
 abbrev pub OneArray : Type 0
 OneArray = (text : List ℕ) (a b : Entries) → IsArrayText text a → IsArrayText text b → a ≡ b
@@ -20,3 +22,7 @@ NotBoth = (text : List ℕ) (a : Entries) (f : ArrayFault) → IsArrayText text 
 -- the canonical text is an array text of the array
 abbrev pub CanonicalIsText : Type 0
 CanonicalIsText = (a : Entries) → IsArray a → IsArrayText (array_text a) a
+
+-- a text is that of one list of tests
+abbrev pub OneTestList : Type 0
+OneTestList = (text : List ℕ) (tests others : List Test) → IsTestList text tests → IsTestList text others → tests ≡ others

@@ -20,7 +20,7 @@ mod test_set;
 pub use array::Array;
 pub use claim::{Claim, Class};
 pub use fault::{ArrayFault, ArrayKind};
-pub use laws::text_law;
+pub use laws::{test_list_law, text_law};
 pub use limits::{MAX_DIAMETER, MAX_ENTRY};
 pub use node::Node;
 pub use numbers::{condition_law, example_law, number_law};

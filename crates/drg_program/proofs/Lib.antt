@@ -1,6 +1,5 @@
 pub mod CheckLemmas
 mod InputLemmas
 mod ReplayLemmas
-mod TestListLemmas
 mod WordLemmas
 mod RunLemmas

@@ -4,11 +4,11 @@ use Rattle.std.specs.Prelude.{codes, string_bytes}
 use Rattle.std.specs.declared.alloc.Global.{Global}
 use Rattle.std.specs.declared.string.String.{String}
 use Rattle.drg_array.specs.TestLists.{IsTestList}
+use Rattle.drg_array.proofs.TestTexts.{one_list}
 use Rattle.drg_array.specs.declared.test.Test.{Test}
 use Rattle.drg_program.specs.Words.{AreWordsOf, IsCommand, IsCommandOn, OneCommand, words_of}
 use Rattle.drg_program.specs.declared.command.Command.{Command}
 use Rattle.drg_program.specs.declared.command.Command.TheVariants.{Check, Replay}
-use Rattle.drg_program.proofs.TestListLemmas.{one_list}
 
 -- four words of which the first three begin no command
 pub not_listed : (words : List (String Global)) (first second third : String Global) (name option list : List ℕ)
