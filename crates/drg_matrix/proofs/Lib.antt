@@ -1,0 +1,6 @@
+mod Cells
+mod Filling
+mod Products
+mod Inverses
+mod KreinProofs
+mod Complete

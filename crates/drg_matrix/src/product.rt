@@ -1,0 +1,105 @@
+//! The rows of a product.
+
+ghost use Rattle.std.specs.Prelude.{◌≡◌, ◌+◌, ◌<◌, All, IfOk, IfErr, OnOk, drop, fold, length, map};
+ghost use Rattle.drg_fraction.specs.Work.{Gives};
+ghost use Rattle.drg_fraction.specs.Field.{products, dot_of, dot_fits, dot_fits_from};
+ghost use Rattle.drg_matrix.specs.Table.{IsTable, column_of};
+ghost use Rattle.drg_matrix.specs.Product.{IsFault, product_at, product_fits_at};
+ghost use Rattle.drg_matrix.specs.Filling.{IsFilled};
+
+use crate::fault::TableFault;
+use crate::table::Table;
+use drg_fraction::{Field, Wide};
+
+/// Appends a row of the product of two tables.
+pub(crate) fn append_row<F: Field>(
+    cells: &mut Vec<F>,
+    left: &Table<F>,
+    right: &Table<F>,
+    row: usize,
+) -> Result<(), TableFault>
+    requires side { left.now.side ≡ right.now.side }
+    requires root { left.now.root ≡ right.now.root }
+    requires row { row < left.now.side }
+    requires filled { let times = F.times left.now.root in
+        let product_fits = F.product_fits left.now.root in
+        IsFilled F.value F.nil F.root_of left.now.root left.now.side
+        (product_fits_at F.value F.nil F.plus times F.sum_fits product_fits left.now right.now)
+        (product_at F.value F.nil F.plus times left.now right.now)
+        row 0 cells.old.items }
+    ensures filled { let times = F.times left.now.root in
+        let product_fits = F.product_fits left.now.root in
+        OnOk result (IsFilled F.value F.nil F.root_of left.now.root left.now.side
+        (product_fits_at F.value F.nil F.plus times F.sum_fits product_fits left.now right.now)
+        (product_at F.value F.nil F.plus times left.now right.now)
+        (row + 1) 0 cells.new.items) }
+    ensures fault { let times = F.times left.now.root in
+        let product_fits = F.product_fits left.now.root in
+        IfErr result (IsFault left.now.side
+        (product_fits_at F.value F.nil F.plus times F.sum_fits product_fits left.now right.now)) }
+{
+    'cols: for col in 0..right.side() {
+        let Ok(value) = dot_column(left.row(row), right, col) else {
+            return Err(TableFault::Wide {
+                row: row as u8,
+                col: col as u8,
+            });
+        };
+        cells.push(value)?;
+    }
+    Ok(())
+}
+
+/// The row times the column, from left to right, starting at the first product.
+fn dot_column<F: Field>(row: &[F], right: &Table<F>, col: usize) -> Result<F, Wide>
+    requires table { IsTable F.root_of right.now }
+    requires length { length row.now ≡ right.now.side }
+    requires roots { All (λ x. F.root_of x ≡ right.now.root) row.now }
+    requires col { col < right.now.side }
+    ensures value { let xs = map F.value row.now in
+        let ys = column_of F.value F.nil right.now col in
+        Gives F.value result
+        (dot_fits F.sum_fits (F.product_fits right.now.root) F.plus (F.times right.now.root) xs ys)
+        (dot_of F.nil F.plus (F.times right.now.root) xs ys) }
+    ensures root { IfOk result (λ r. F.root_of r ≡ right.now.root) }
+{
+    match row {
+        [] => Ok(F::of_int(right.root(), 0)),
+        [first, rest @ ..] => {
+            let product = first.mul(right.get(0, col))?;
+            dot_column_onto(product, rest, right, 1, col)
+        }
+    }
+}
+
+/// What stands so far and the products of the row and the column from the place `at` on, from left
+/// to right.
+fn dot_column_onto<F: Field>(
+    so_far: F,
+    row: &[F],
+    right: &Table<F>,
+    at: usize,
+    col: usize,
+) -> Result<F, Wide>
+    requires so_far { F.root_of so_far ≡ right.now.root }
+    requires table { IsTable F.root_of right.now }
+    requires length { at + length row.now ≡ right.now.side }
+    requires roots { All (λ x. F.root_of x ≡ right.now.root) row.now }
+    requires col { col < right.now.side }
+    ensures value { let times = F.times right.now.root in
+        let fits = F.product_fits right.now.root in
+        let xs = map F.value row.now in
+        let ys = drop at (column_of F.value F.nil right.now col) in
+        Gives F.value result
+        (dot_fits_from F.sum_fits fits F.plus times (F.value so_far) xs ys)
+        (fold F.plus (F.value so_far) (products times xs ys)) }
+    ensures root { IfOk result (λ r. F.root_of r ≡ right.now.root) }
+{
+    match row {
+        [] => Ok(so_far),
+        [first, rest @ ..] => {
+            let product = first.mul(right.get(at, col))?;
+            dot_column_onto(so_far.add(product)?, rest, right, at + 1, col)
+        }
+    }
+}
