@@ -14,7 +14,7 @@ use Rattle.drg_algebra.specs.Gcd.{gcd_of, gcd_step, gcd_zero}
 use Rattle.drg_algebra.proofs.RatioLemmas.{negative_of_ratio, parts_are_reduced}
 use Rattle.drg_algebra.specs.Reduced.{numerator, denominator, numerator_ratio, denominator_ratio, denominator_above, ratio_of_parts, common}
 use Rattle.drg_fraction.specs.Field.{HasSign}
-use Rattle.drg_algebra.specs.Order.{IsAbove}
+use Rattle.drg_fraction.specs.Rationals.{rational_operations}
 use Rattle.drg_fraction.specs.declared.fraction.Fraction.{Fraction}
 use Rattle.drg_fraction.specs.Fraction.{rational_of}
 use native.Mathlib.Nat.{mod-one}
@@ -65,6 +65,13 @@ numerator_minus q =
     let one_divisor : common (neg_ℤ n) d ≡ 1 = ap (λ m. gcd_of m (unsigned_abs d)) (abs_turned n) ∙ (parts_are_reduced q).0.coprime in
     ap (λ x. numerator (minus x)) (sym (ratio_of_parts q)) ∙ ap numerator (negative_of_ratio n d (denominator_above q)) ∙ numerator_ratio (neg_ℤ n) d (denominator_above q) one_divisor
 
+pub denominator_minus : (q : ℚ) → denominator (minus q) ≡ denominator q
+denominator_minus q =
+    let n = numerator q in
+    let d = denominator q in
+    let one_divisor : common (neg_ℤ n) d ≡ 1 = ap (λ m. gcd_of m (unsigned_abs d)) (abs_turned n) ∙ (parts_are_reduced q).0.coprime in
+    ap (λ x. denominator (minus x)) (sym (ratio_of_parts q)) ∙ ap denominator (negative_of_ratio n d (denominator_above q)) ∙ denominator_ratio (neg_ℤ n) d (denominator_above q) one_divisor
+
 -- a rational is 0 exactly where its numerator is
 pub zero_value : (q : ℚ) → numerator q ≡ pos 0 → q ≡ whole (pos 0)
 zero_value q e =
@@ -75,10 +82,10 @@ pub value_zero : (q : ℚ) → q ≡ whole (pos 0) → numerator q ≡ pos 0
 value_zero q e = ap numerator e ∙ numerator_whole (pos 0)
 
 -- the sign of a rational is that of its numerator
-pub sign_is : (q : ℚ) → HasSign IsAbove (whole (pos 0)) minus q (int_cmp (numerator q) (pos 0))
+pub sign_is : (q : ℚ) → HasSign rational_operations q (int_cmp (numerator q) (pos 0))
 sign_is q = at (int_cmp (numerator q) (pos 0)) (int_ranks (numerator q) (pos 0))
   where
-    at : (o : Ordering) → MatchOrdering o (numerator q <ℤ pos 0) (numerator q ≡ pos 0) (pos 0 <ℤ numerator q) → HasSign IsAbove (whole (pos 0)) minus q o
+    at : (o : Ordering) → MatchOrdering o (numerator q <ℤ pos 0) (numerator q ≡ pos 0) (pos 0 <ℤ numerator q) → HasSign rational_operations q o
     at Less h = rw (numerator_minus q) (omega (arith, ints))
     at Equal h = zero_value q h
     at Greater h = h

@@ -1,6 +1,7 @@
 pub mod Work
 pub mod Whole
 pub mod Fraction
+pub mod Operations
 pub mod Field
 pub mod Rationals
 pub mod Text

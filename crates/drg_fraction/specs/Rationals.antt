@@ -1,27 +1,43 @@
--- The rationals as an exact field of root 0, in which each value is its own first part.
-use Rattle.std.specs.Prelude.{◌≡◌, ℕ, pos, refl}
-use Rattle.std.proofs.Common.{sym, ◌∙◌, ap}
+-- The rationals as an exact field of root 0, in which each value is its own rational part.
+use Rattle.std.specs.Prelude.{◌≡◌, ℕ, pos, true, refl}
+use Rattle.std.proofs.Common.{sym, ◌∙◌, ap, arith}
 use Rattle.drg_algebra.specs.Ring.{none, ◌⊗◌, ring2}
 use Rattle.drg_algebra.specs.Rational.{ℚ, whole, plus, times, minus, rationals}
 use Rattle.drg_algebra.specs.Fields.{invert, invert_is, rational_field}
 use Rattle.drg_algebra.proofs.Maps.{whole_map}
 use Rattle.drg_algebra.proofs.NumberOrder.{rationals_ordered, sign_of_whole}
-use Rattle.drg_fraction.specs.Field.{IsExactField}
 use Rattle.drg_algebra.specs.Order.{IsAbove}
+use Rattle.drg_fraction.specs.Work.{sum_fits, difference_fits, product_fits, quotient_fits}
+use Rattle.drg_fraction.specs.Operations.{Operations}
+use Rattle.drg_fraction.specs.Field.{IsExactField}
 
--- the part of the root, which is 0
-abbrev pub zero_part : ℚ → ℚ
-zero_part q = whole (pos 0)
-
--- each rational belongs to root 0
-abbrev pub Everything : ℚ → Type 0
-Everything q = Unit {0}
+-- The operations on rationals: each is its own rational part, the part of the root is 0, and each belongs to root 0.
+abbrev pub rational_operations : Operations ℚ
+rational_operations = record {
+  nil = whole (pos 0);
+  unit = whole (pos 1);
+  plus = plus;
+  minus = minus;
+  times = times;
+  invert = invert;
+  rational = λ q. q;
+  square_root = whole (pos 0);
+  rational_part = λ q. q;
+  root_part = λ q. whole (pos 0);
+  IsOver = λ q. Unit {0};
+  IsPositive = IsAbove;
+  sum_fits = sum_fits;
+  difference_fits = difference_fits;
+  product_fits = product_fits;
+  quotient_fits = quotient_fits;
+  sign_fits = λ q. true;
+}
 
 zero_times : (q : ℚ) → times (whole (pos 0)) q ≡ whole (pos 0)
 zero_times q = ring2 rationals (λ q z. none ⊗ q) (λ q z. none) refl q q
 
 -- the rationals meet the laws of an exact field, at root 0
-pub rational_laws : (root : ℕ) → root ≡ 0 → IsExactField (whole (pos 0)) (whole (pos 1)) plus times minus invert (λ q. q) (whole (pos 0)) (λ q. q) zero_part Everything IsAbove root
+pub rational_laws : (root : ℕ) → root ≡ 0 → IsExactField rational_operations root
 rational_laws root e = record {
   ring = rationals;
   apart = rational_field.apart;
@@ -46,13 +62,19 @@ rational_laws root e = record {
   whole_plus = whole_map.plus;
   whole_times = whole_map.times;
   whole_positive = λ n h. (sign_of_whole n).1 h;
+  squarefree = λ h. absurd (omega (arith, e));
+  above_one = λ h. absurd (omega (arith, e));
   square = zero_times (whole (pos 0)) ∙ ap (λ (n : ℕ). whole (pos n)) (sym e);
+  root_positive = λ h. absurd (omega (arith, e));
   by_parts = λ x o. sym (ap (plus x) (zero_times (whole (pos 0))) ∙ rationals.plus_nil x);
+  flat = λ z x o. refl;
   nil_by_parts = λ x o p q. p;
-  first_rational = λ q. refl;
-  second_rational = λ q. refl;
-  first_plus = λ x y. refl;
-  second_plus = λ x y. sym (rationals.plus_nil (whole (pos 0)));
-  first_scaled = λ q x. refl;
-  second_scaled = λ q x. sym (rationals.times_comm q (whole (pos 0)) ∙ zero_times q);
+  rational_part_of_rational = λ q. refl;
+  root_part_of_rational = λ q. refl;
+  rational_part_of_root = λ h. absurd (omega (arith, e));
+  root_part_of_root = λ h. absurd (omega (arith, e));
+  rational_part_of_sum = λ x y. refl;
+  root_part_of_sum = λ x y. sym (rationals.plus_nil (whole (pos 0)));
+  rational_part_scaled = λ q x. refl;
+  root_part_scaled = λ q x. sym (rationals.times_comm q (whole (pos 0)) ∙ zero_times q);
 }

@@ -1,9 +1,9 @@
-ghost use Rattle.std.specs.Prelude.{◌≡◌, ◌++◌, OnOk, OnErr, ℤ, pos, ◌<ℤ◌, unsigned_abs, neg_ℤ};
+ghost use Rattle.std.specs.Prelude.{◌≡◌, ◌++◌, OnOk, OnErr, pos, ◌<ℤ◌, IsTrue, ◌↔◌};
 ghost use Rattle.drg_algebra.specs.Rational.{plus, times, minus, whole};
 ghost use Rattle.drg_algebra.specs.Ratio.{ratio};
 ghost use Rattle.drg_algebra.specs.Reduced.{numerator, denominator, common};
 ghost use Rattle.drg_algebra.specs.Fields.{invert};
-ghost use Rattle.drg_fraction.specs.Work.{InRange, Gives, all_fit, sum_work, product_work};
+ghost use Rattle.drg_fraction.specs.Work.{InRange, Gives, all_fit, sum_work, product_work, product_fits};
 ghost use Rattle.drg_fraction.specs.Text.{rational_text, BeginsWith};
 
 use crate::whole::{Whole, Wide};
@@ -55,6 +55,31 @@ impl Fraction {
         self.den.value
     }
 
+    /// The fraction with the other sign.
+    pub fn negated(self) -> Fraction
+        ensures { rational_of result ≡ minus (rational_of self) }
+    {
+        Fraction {
+            num: self.num.negated(),
+            den: self.den,
+        }
+    }
+
+    /// The product with itself, which is refused exactly where that of `mul` is. A fraction in lowest
+    /// terms has its square in lowest terms.
+    pub fn squared(self) -> Result<Fraction, Wide>
+        ensures { Gives rational_of result
+            (product_fits (rational_of self) (rational_of self))
+            (times (rational_of self) (rational_of self)) }
+    {
+        let over = self.num.times(self.num)?;
+        let under = self.den.times(self.den)?;
+        Ok(Fraction {
+            num: over,
+            den: under,
+        })
+    }
+
     /// Appends the numerator, and behind a slash the denominator where that isn't 1.
     pub fn write_text(&self, out: &mut Vec<u8>) -> Result<(), AllocError>
         ensures ok { OnOk result
@@ -99,6 +124,24 @@ impl Fraction {
             (all_fit (sum_work self.num.value self.den.value other.num.value other.den.value))
             (plus (rational_of self) (rational_of other)) }
     {
+        if self.is_whole() && other.is_whole() {
+            Ok(Fraction::whole(self.num.plus(other.num)?))
+        } else if self.num.value == 0 {
+            Ok(other)
+        } else if other.num.value == 0 {
+            Ok(self)
+        } else {
+            self.general_sum(other)
+        }
+    }
+
+    // The same by the least common denominator. What that has in common with the sum divides the
+    // greatest common divisor of both denominators.
+    fn general_sum(self, other: Fraction) -> Result<Fraction, Wide>
+        ensures { Gives rational_of result
+            (all_fit (sum_work self.num.value self.den.value other.num.value other.den.value))
+            (plus (rational_of self) (rational_of other)) }
+    {
         let divisor = self.den.common_divisor(other.den);
         let own_scale = other.den.over(divisor);
         let other_scale = self.den.over(divisor);
@@ -106,11 +149,39 @@ impl Fraction {
         let right = other.num.times(other_scale)?;
         let sum = left.plus(right)?;
         let under = self.den.times(own_scale)?;
-        Ok(Fraction::reduce(sum, under))
+        let rest = sum.common_divisor(divisor);
+        Ok(Fraction {
+            num: sum.over(rest),
+            den: under.over(rest),
+        })
+    }
+
+    // Whether the denominator is 1.
+    fn is_whole(&self) -> bool
+        ensures { IsTrue result ↔ (self.now.den.value ≡ pos 1) }
+    {
+        self.den.value == 1
     }
 
     // The product, with common divisors taken out first, so that it is in lowest terms.
     pub(crate) fn exact_product(self, other: Fraction) -> Result<Fraction, Wide>
+        ensures { Gives rational_of result
+            (all_fit (product_work self.num.value self.den.value other.num.value other.den.value))
+            (times (rational_of self) (rational_of other)) }
+    {
+        if self.is_whole() && other.is_whole() {
+            Ok(Fraction::whole(self.num.times(other.num)?))
+        } else if self.num.value == 0 {
+            Ok(self)
+        } else if other.num.value == 0 {
+            Ok(other)
+        } else {
+            self.general_product(other)
+        }
+    }
+
+    // The same of any two fractions.
+    fn general_product(self, other: Fraction) -> Result<Fraction, Wide>
         ensures { Gives rational_of result
             (all_fit (product_work self.num.value self.den.value other.num.value other.den.value))
             (times (rational_of self) (rational_of other)) }
@@ -123,18 +194,6 @@ impl Fraction {
             num: over,
             den: under,
         })
-    }
-
-    // The fraction with the other sign.
-    pub(crate) fn negated(self) -> Fraction
-        ensures value { rational_of result ≡ minus (rational_of self) }
-        ensures num { result.num.value ≡ neg_ℤ self.num.value }
-        ensures den { result.den ≡ self.den }
-    {
-        Fraction {
-            num: self.num.negated(),
-            den: self.den,
-        }
     }
 
     // The inverse, with its sign at the numerator.

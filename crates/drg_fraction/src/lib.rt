@@ -6,9 +6,10 @@
 //! above is generic over it and rests on its laws alone. `sum` and `dot` are the first such code. No
 //! call takes memory but `Fraction::write_text`.
 //!
-//! The work numbers stand in `specs/Work.antt`, the laws of a field and the values of `sum` and `dot`
-//! in `specs/Field.antt`, the rational of a fraction in `specs/Fraction.antt`, its text in
-//! `specs/Text.antt`. The rationals themselves are those of `drg_algebra`.
+//! The work numbers stand in `specs/Work.antt`, the operations of a field in `specs/Operations.antt`,
+//! its laws and the values of `sum` and `dot` in `specs/Field.antt`, the rational of a fraction in
+//! `specs/Fraction.antt`, its text in `specs/Text.antt`. The rationals themselves are those of
+//! `drg_algebra`.
 #![tactic(auto)]
 
 mod field;

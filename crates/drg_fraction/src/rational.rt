@@ -1,4 +1,4 @@
-ghost use Rattle.std.specs.Prelude.{◌≡◌, ℕ, pos, refl, true};
+ghost use Rattle.std.specs.Prelude.{◌≡◌, refl};
 
 use crate::field::Field;
 use crate::fraction::Fraction;
@@ -7,13 +7,9 @@ use std::cmp::Ordering;
 
 /// A fraction is an exact value of root 0.
 impl Field for Fraction {
-    ghost use Rattle.drg_algebra.specs.Rational.{ℚ, plus, times, minus, whole};
-    ghost use Rattle.drg_algebra.specs.Fields.{invert};
-    ghost use Rattle.drg_fraction.specs.Work.{sum_fits, difference_fits, product_fits, quotient_fits};
-    ghost use Rattle.drg_algebra.specs.Order.{IsAbove};
-    ghost use Rattle.drg_fraction.specs.Fraction.{rational_of};
-    ghost use Rattle.drg_fraction.specs.Rationals.{zero_part, Everything, rational_laws};
-    ghost use Rattle.drg_fraction.specs.Fraction.{one_fraction};
+    ghost use Rattle.drg_algebra.specs.Rational.{ℚ};
+    ghost use Rattle.drg_fraction.specs.Fraction.{rational_of, one_fraction};
+    ghost use Rattle.drg_fraction.specs.Rationals.{rational_operations, rational_laws};
 
     ghost V = { ℚ };
 
@@ -21,41 +17,9 @@ impl Field for Fraction {
 
     ghost root_of = { λ x. 0 };
 
-    ghost nil = { whole (pos 0) };
-
-    ghost unit = { whole (pos 1) };
-
-    ghost plus = { plus };
-
-    ghost minus = { minus };
-
-    ghost times = { λ root. times };
-
-    ghost invert = { λ root. invert };
-
-    ghost rational = { λ q. q };
-
-    ghost square_root = { λ root. whole (pos 0) };
-
-    ghost first = { λ q. q };
-
-    ghost second = { zero_part };
-
     ghost HasRoot = { λ root. root ≡ 0 };
 
-    ghost IsOver = { λ root. Everything };
-
-    ghost IsPositive = { λ root. IsAbove };
-
-    ghost sum_fits = { sum_fits };
-
-    ghost difference_fits = { difference_fits };
-
-    ghost product_fits = { λ root. product_fits };
-
-    ghost quotient_fits = { λ root. quotient_fits };
-
-    ghost sign_fits = { λ root x. true };
+    ghost operations = { λ root. rational_operations };
 
     ghost laws = { rational_laws };
 
@@ -75,6 +39,10 @@ impl Field for Fraction {
 
     fn of_halves(_root: u32, s: i128, _f: i128) -> Fraction {
         Fraction::make(s, 2)
+    }
+
+    fn of_parts(_root: u32, a: Fraction, _b: Fraction) -> Fraction {
+        a
     }
 
     fn add(self, other: Fraction) -> Result<Fraction, Wide> {

@@ -85,6 +85,15 @@ fn sums_and_differences(rt: HostRuntime) {
             Fraction::make(1, MOST).sub(Fraction::make(1, MOST)),
             Some((0, 1)),
         ),
+        (
+            Fraction::make(0, 1).sub(Fraction::make(MOST, 2)),
+            Some((-MOST, 2)),
+        ),
+        (
+            Fraction::make(1, MOST).add(Fraction::make(0, 1)),
+            Some((1, MOST)),
+        ),
+        (Ok(Fraction::make(-1, 2).negated()), Some((1, 2))),
     ] {
         assert_eq!(rt; shown(answer), want);
     }
@@ -126,6 +135,13 @@ fn products_and_quotients(rt: HostRuntime) {
             Some((1, 1 << 126)),
         ),
         (quotient(Fraction::make(0, 1), small), Some((0, 1))),
+        (
+            Fraction::make(1, MOST).mul(Fraction::make(0, 1)),
+            Some((0, 1)),
+        ),
+        (Fraction::make(2, -3).squared(), Some((4, 9))),
+        (small.squared(), Some((1, 1 << 126))),
+        (big.squared(), None),
     ] {
         assert_eq!(rt; shown(answer), want);
     }
@@ -217,8 +233,10 @@ fn each_call<F: Field>(root: u32, x: F, y: F) -> Result<bool, Wide>
     let product = x.mul(y)?;
     let divided = if y.is_zero() { x } else { product.div(y)? };
     let (whole, rest) = one.parts();
+    let (a, b) = x.parts();
     Ok(
         back.same(x)
+            && F::of_parts(root, a, b).same(x)
             && divided.same(x)
             && one.root() == root
             && one.as_int() == Some(1)

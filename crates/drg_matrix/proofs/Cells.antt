@@ -7,6 +7,7 @@ use Rattle.std.proofs.lemmas.List.FromFn.{fill_by_all, length-map-range_with_len
 use Rattle.std.proofs.lemmas.Slice.{first_rest}
 use Rattle.std.proofs.lemmas.Nat.{mul-add-lt, row_fits, same_from_place}
 use Rattle.drg_algebra.specs.Tables.{delta}
+use Rattle.drg_fraction.specs.Operations.{Operations}
 use Rattle.drg_matrix.specs.Laws.{CellsAreOver}
 use Rattle.drg_matrix.specs.Table.{Square, cell, row_of, column_of, place}
 
@@ -44,10 +45,11 @@ module _ {A V : Type 0} (value : A → V) (nil : V) where
       ap (λ ys. get_or ys (place n i j) nil) (map-set value xs (place n k l) x)
       ∙ get_or-set_other (map value xs) (place n k l) (place n i j) (value x) nil (λ e. apart (same_from_place i j k l n h g e))
 
+module _ {A V : Type 0} (value : A → V) (operations : ℕ → Operations V) where
   -- a row is a part of the list
   pub row_values : (t : Square A) (k from to : ℕ) → length t.cells ≡ t.side * t.side → k < t.side → from ≡ k * t.side → to ≡ (k + 1) * t.side
-      → map value (take (to - from) (drop from t.cells)) ≡ row_of value nil t k
-  row_values t k from to long h e f = fill_by_all (cell value nil t k) (map value (take (to - from) (drop from t.cells))) t.side nil (length-map _ value ∙ taken) at
+      → map value (take (to - from) (drop from t.cells)) ≡ row_of value operations t k
+  row_values t k from to long h e f = fill_by_all (cell value operations t k) (map value (take (to - from) (drop from t.cells))) t.side (operations t.root).nil (length-map _ value ∙ taken) at
     where
       wide : to - from ≡ t.side
       wide = let next = add-mul k 1 t.side in omega (arith, e, f, next)
@@ -58,42 +60,42 @@ module _ {A V : Type 0} (value : A → V) (nil : V) where
       taken : length (take (to - from) (drop from t.cells)) ≡ t.side
       taken = length-take-le (to - from) (drop from t.cells) (omega (arith, length-drop from t.cells, fits)) ∙ wide
 
-      at : (j : ℕ) → j < t.side → get_or (map value (take (to - from) (drop from t.cells))) j nil ≡ cell value nil t k j
+      at : (j : ℕ) → j < t.side → get_or (map value (take (to - from) (drop from t.cells))) j (operations t.root).nil ≡ cell value operations t k j
       at j g =
           let inside : j < to - from = omega (arith, wide) in
-          ap (λ ys. get_or ys j nil) (sym (take-map value (to - from) (drop from t.cells)) ∙ ap (take (to - from)) (sym (drop-map value from t.cells)))
-          ∙ get_or-take (to - from) (drop from (map value t.cells)) j nil inside
-          ∙ get_or-drop from (map value t.cells) j nil
-          ∙ ap (λ (m : ℕ). get_or (map value t.cells) (m + j) nil) e
+          ap (λ ys. get_or ys j (operations t.root).nil) (sym (take-map value (to - from) (drop from t.cells)) ∙ ap (take (to - from)) (sym (drop-map value from t.cells)))
+          ∙ get_or-take (to - from) (drop from (map value t.cells)) j (operations t.root).nil inside
+          ∙ get_or-drop from (map value t.cells) j (operations t.root).nil
+          ∙ ap (λ (m : ℕ). get_or (map value t.cells) (m + j) (operations t.root).nil) e
 
   -- what holds of a row as a list holds of its cells
-  module _ (t : Square A) (i : ℕ) (xs : List A) (values : map value xs ≡ row_of value nil t i) (long : length xs ≡ t.side) where
-    item : (j : ℕ) → j < t.side → get_or (map value xs) j nil ≡ cell value nil t i j
-    item j h = ap (λ us. get_or us j nil) values ∙ get_or-map-range_with_len (cell value nil t i) 0 t.side j j nil h (omega arith)
+  module _ (t : Square A) (i : ℕ) (xs : List A) (values : map value xs ≡ row_of value operations t i) (long : length xs ≡ t.side) where
+    item : (j : ℕ) → j < t.side → get_or (map value xs) j (operations t.root).nil ≡ cell value operations t i j
+    item j h = ap (λ us. get_or us j (operations t.root).nil) values ∙ get_or-map-range_with_len (cell value operations t i) 0 t.side j j (operations t.root).nil h (omega arith)
 
-    pub row_to_cells : (f : ℕ → V) → ((j : ℕ) → j < length xs → get_or (map value xs) j nil ≡ f j) → (j : ℕ) → j < t.side → cell value nil t i j ≡ f j
+    pub row_to_cells : (f : ℕ → V) → ((j : ℕ) → j < length xs → get_or (map value xs) j (operations t.root).nil ≡ f j) → (j : ℕ) → j < t.side → cell value operations t i j ≡ f j
     row_to_cells f all j h = sym (item j h) ∙ all j (omega (arith, h, long))
 
-    pub cells_to_row : (f : ℕ → V) → ((j : ℕ) → j < t.side → cell value nil t i j ≡ f j) → (j : ℕ) → j < length xs → get_or (map value xs) j nil ≡ f j
+    pub cells_to_row : (f : ℕ → V) → ((j : ℕ) → j < t.side → cell value operations t i j ≡ f j) → (j : ℕ) → j < length xs → get_or (map value xs) j (operations t.root).nil ≡ f j
     cells_to_row f all j h = let inside : j < t.side = omega (arith, h, long) in item j inside ∙ all j inside
 
   -- a value of a table is that of a member with the root of the table
-  pub cells_are_over : (root_of : A → ℕ) (IsOver : ℕ → V → Type 0) → ((x : A) → IsOver (root_of x) (value x)) → CellsAreOver value nil root_of IsOver
-  cells_are_over root_of IsOver over t is i j h k = at t.cells is.roots (omega (arith, is.full, mul-add-lt i t.side j t.side h k))
+  pub cells_are_over : (root_of : A → ℕ) → ((x : A) → (operations (root_of x)).IsOver (value x)) → CellsAreOver value operations root_of
+  cells_are_over root_of over t is i j h k = at t.cells is.roots (omega (arith, is.full, mul-add-lt i t.side j t.side h k))
     where
-      at : (xs : List A) → All (λ x. root_of x ≡ t.root) xs → place t.side i j < length xs → IsOver t.root (get_or (map value xs) (place t.side i j) nil)
+      at : (xs : List A) → All (λ x. root_of x ≡ t.root) xs → place t.side i j < length xs → (operations t.root).IsOver (get_or (map value xs) (place t.side i j) (operations t.root).nil)
       at [] roots less = absurd (omega arith)
       at (x ∷ xs) roots less =
-          subst (λ v. IsOver t.root v) (sym (get_or-map value (x ∷ xs) (place t.side i j) x nil less))
-          (subst (λ r. IsOver r (value (get_or (x ∷ xs) (place t.side i j) x))) (roots (place t.side i j) x less) (over (get_or (x ∷ xs) (place t.side i j) x)))
+          subst (λ v. (operations t.root).IsOver v) (sym (get_or-map value (x ∷ xs) (place t.side i j) x (operations t.root).nil less))
+          (subst (λ r. (operations r).IsOver (value (get_or (x ∷ xs) (place t.side i j) x))) (roots (place t.side i j) x less) (over (get_or (x ∷ xs) (place t.side i j) x)))
 
   -- a column from a place on is the cell of the place and what follows
-  pub column_from : (t : Square A) (j at : ℕ) → at < t.side → drop at (column_of value nil t j) ≡ cell value nil t at j ∷ drop (at + 1) (column_of value nil t j)
+  pub column_from : (t : Square A) (j at : ℕ) → at < t.side → drop at (column_of value operations t j) ≡ cell value operations t at j ∷ drop (at + 1) (column_of value operations t j)
   column_from t j at h =
-      let f = λ (i : ℕ). cell value nil t i j in
+      let f = λ (i : ℕ). cell value operations t i j in
       let long = length-map-range_with_len f 0 t.side in
-      drop_more (column_of value nil t j) at nil (omega (arith, long, h))
-      ∙ ap (λ x. x ∷ drop (at + 1) (column_of value nil t j)) (get_or-map-range_with_len f 0 t.side at at nil h (omega arith))
+      drop_more (column_of value operations t j) at (operations t.root).nil (omega (arith, long, h))
+      ∙ ap (λ x. x ∷ drop (at + 1) (column_of value operations t j)) (get_or-map-range_with_len f 0 t.side at at (operations t.root).nil h (omega arith))
 
 -- the first item and the rest
 pub split_first : {A : Type 0} (xs : List A) (x : A) → 1 ≤ length xs → x ≡ get_or xs 0 x → xs ≡ x ∷ take (length xs - 1) (drop 1 xs)

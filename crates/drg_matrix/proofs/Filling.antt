@@ -4,8 +4,9 @@ use Rattle.std.proofs.lemmas.List.{length-map, length_push, map_push, get_or_app
 use Rattle.std.proofs.lemmas.Bool.{cases_lt}
 use Rattle.std.proofs.lemmas.List.Elements.{All-push, All-nil, All-same}
 use Rattle.std.proofs.Math.Nat.{mul-le-mul_right, suc-mul}
-use Rattle.drg_matrix.specs.Table.{place}
-use Rattle.drg_matrix.specs.Product.{IsBefore}
+use Rattle.drg_fraction.specs.Operations.{Operations}
+use Rattle.drg_matrix.specs.Table.{Square, place}
+use Rattle.drg_matrix.specs.Product.{product_at, product_fits_at, IsBefore}
 use Rattle.drg_matrix.specs.Filling.{IsFilled}
 
 -- what comes before the next place is the place or comes before it
@@ -31,9 +32,24 @@ place_before n i j k l h (inl g) =
     omega (arith, rows, next, h)
 place_before n i j k l h (inr (e, g)) = let rows = ap (λ (m : ℕ). m * n) e in omega (arith, rows, g)
 
-module _ {A V : Type 0} (value : A → V) (nil : V) (root_of : A → ℕ) (root n : ℕ) (fits : ℕ → ℕ → Bool) (f : ℕ → ℕ → V) where
+module _ {A V : Type 0} (value : A → V) (operations : ℕ → Operations V) (root_of : A → ℕ) (s t : Square A) where
   abbrev Filled : ℕ → ℕ → List A → Type 0
-  Filled k l cells = IsFilled value nil root_of root n fits f k l cells
+  Filled k l cells = IsFilled value operations root_of s t k l cells
+
+  abbrev nil : V
+  nil = (operations s.root).nil
+
+  abbrev root : ℕ
+  root = s.root
+
+  abbrev n : ℕ
+  n = s.side
+
+  abbrev fits : ℕ → ℕ → Bool
+  fits = product_fits_at value operations s t
+
+  abbrev f : ℕ → ℕ → V
+  f = product_at value operations s t
 
   pub filled_none : (cells : List A) → cells ≡ [] → Filled 0 0 cells
   filled_none cells e = record {
@@ -48,7 +64,7 @@ module _ {A V : Type 0} (value : A → V) (nil : V) (root_of : A → ℕ) (root 
       none i j (inr (e, h)) = omega (arith, h)
 
   pub filled_more : (k l : ℕ) (cells more : List A) (x : A) → more ≡ cells ++ x ∷ [] → Filled k l cells → root_of x ≡ root → fits k l ≡ true → value x ≡ f k l → Filled k (l + 1) more
-  filled_more k l cells more x e h r t v = record {
+  filled_more k l cells more x e h r fitting v = record {
     long = ap length e ∙ length_push cells x ∙ omega (arith, h.long);
     roots = All-same (λ y. root_of y ≡ root) more _ e (All-push (λ y. root_of y ≡ root) cells x h.roots r);
     fit = λ i j g b. fit i j g (before_next i j k l b);
@@ -57,7 +73,7 @@ module _ {A V : Type 0} (value : A → V) (nil : V) (root_of : A → ℕ) (root 
     where
       fit : (i j : ℕ) → j < n → IsBefore i j k l ⊎ ((i ≡ k) × (j ≡ l)) → fits i j ≡ true
       fit i j g (inl b) = h.fit i j g b
-      fit i j g (inr (p, q)) = ap₂ fits p q ∙ t
+      fit i j g (inr (p, q)) = ap₂ fits p q ∙ fitting
 
       at : (i j : ℕ) → j < n → IsBefore i j k l ⊎ ((i ≡ k) × (j ≡ l)) → get_or (map value cells ++ value x ∷ []) (place n i j) nil ≡ f i j
       at i j g (inl b) =

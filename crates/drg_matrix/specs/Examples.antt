@@ -3,8 +3,9 @@
 --   1  3
 --   1 -1
 use Rattle.std.specs.Prelude.{◌≡◌, ℕ, zero, suc, ℤ, pos, neg_ℤ, [], ◌∷◌}
-use Rattle.drg_algebra.specs.Rational.{ℚ, whole}
+use Rattle.drg_algebra.specs.Rational.{whole}
 use Rattle.drg_array.specs.Entries.{Entries}
+use Rattle.drg_fraction.specs.Operations.{Operations}
 use Rattle.drg_matrix.specs.Frame.{IsFrame, multiplicity}
 use Rattle.drg_matrix.specs.Krein.{AreKreinNumbers}
 
@@ -31,18 +32,18 @@ complete_krein zero zero (suc j) = pos 0
 complete_krein zero (suc i) zero = pos 0
 complete_krein (suc h) zero zero = pos 0
 
-abbrev pub CompleteFrame : {V : Type 0} → V → V → (V → V → V) → (V → V → V) → (V → V) → (ℚ → V) → (V → Type 0) → (V → Type 0) → Type 0
-CompleteFrame nil unit plus times minus rational IsOver IsPositive =
-    IsFrame nil unit plus times minus rational IsOver IsPositive complete 4 (λ i. rational (whole (complete_value i)))
-    (λ i j. rational (whole (complete_table i j)))
-    (λ i j. rational (whole (complete_table i j)))
+module _ {V : Type 0} (o : Operations V) where
+  abbrev pub CompleteFrame : Type 0
+  CompleteFrame =
+      IsFrame o complete (λ i. o.rational (whole (complete_value i)))
+      (λ i j. o.rational (whole (complete_table i j)))
+      (λ i j. o.rational (whole (complete_table i j)))
 
-abbrev pub CompleteKrein : {V : Type 0} → V → (V → V → V) → (V → V → V) → (ℚ → V) → Type 0
-CompleteKrein nil plus times rational =
-    AreKreinNumbers nil plus times 1 (λ i j. rational (whole (complete_table i j))) (λ h i j. rational (whole (complete_krein h i j)))
+  abbrev pub CompleteKrein : Type 0
+  CompleteKrein = AreKreinNumbers o 1 (λ i j. o.rational (whole (complete_table i j))) (λ h i j. o.rational (whole (complete_krein h i j)))
 
--- of which 3 occurs once and -1 three times
-abbrev pub CompleteMultiplicities : {V : Type 0} → (ℚ → V) → Type 0
-CompleteMultiplicities {V} rational =
-    let q : ℕ → ℕ → V = λ i j. rational (whole (complete_table i j)) in
-    (multiplicity q 0 ≡ rational (whole (pos 1))) × (multiplicity q 1 ≡ rational (whole (pos 3)))
+  -- of which 3 occurs once and -1 three times
+  abbrev pub CompleteMultiplicities : Type 0
+  CompleteMultiplicities =
+      let q : ℕ → ℕ → V = λ i j. o.rational (whole (complete_table i j)) in
+      (multiplicity q 0 ≡ o.rational (whole (pos 1))) × (multiplicity q 1 ≡ o.rational (whole (pos 3)))

@@ -2,26 +2,27 @@
 use Rattle.std.specs.Prelude.{◌≡◌, ℕ, ◌<◌, Bool, true, false, ⊤}
 use Rattle.std.proofs.Common.{◌⊎◌}
 use Rattle.drg_algebra.specs.Tables.{total}
+use Rattle.drg_fraction.specs.Operations.{Operations}
 use Rattle.drg_fraction.specs.Field.{dot_of, dot_fits}
 use Rattle.drg_matrix.specs.Table.{Square, row_of, column_of, IsScalarTable}
 use Rattle.drg_matrix.specs.declared.fault.TableFault.{TableFault}
 use Rattle.drg_matrix.specs.declared.fault.TableFault.TheVariants.{Wide, Memory}
 
 -- row i of s times column j of t
-abbrev pub product_at : {A V : Type 0} (value : A → V) (nil : V) (plus times : V → V → V) → Square A → Square A → ℕ → ℕ → V
-product_at value nil plus times s t i j = dot_of nil plus times (row_of value nil s i) (column_of value nil t j)
+abbrev pub product_at : {A V : Type 0} (value : A → V) (operations : ℕ → Operations V) → Square A → Square A → ℕ → ℕ → V
+product_at value operations s t i j = dot_of (operations s.root) (row_of value operations s i) (column_of value operations t j)
 
 -- whether its work numbers fit
-abbrev pub product_fits_at : {A V : Type 0} (value : A → V) (nil : V) (plus times : V → V → V) (sum_fits product_fits : V → V → Bool) → Square A → Square A → ℕ → ℕ → Bool
-product_fits_at value nil plus times sum_fits product_fits s t i j = dot_fits sum_fits product_fits plus times (row_of value nil s i) (column_of value nil t j)
+abbrev pub product_fits_at : {A V : Type 0} (value : A → V) (operations : ℕ → Operations V) → Square A → Square A → ℕ → ℕ → Bool
+product_fits_at value operations s t i j = dot_fits (operations s.root) (row_of value operations s i) (column_of value operations t j)
 
 -- the sum over l of p_il q_lj, for tables of n rows and columns
-abbrev pub entry : {V : Type 0} → V → (V → V → V) → (V → V → V) → ℕ → (ℕ → ℕ → V) → (ℕ → ℕ → V) → ℕ → ℕ → V
-entry nil plus times n p q i j = total nil plus n (λ l. times (p i l) (q l j))
+abbrev pub entry : {V : Type 0} → Operations V → ℕ → (ℕ → ℕ → V) → (ℕ → ℕ → V) → ℕ → ℕ → V
+entry o n p q i j = total o.nil o.plus n (λ l. o.times (p i l) (q l j))
 
 -- p q = x I
-abbrev pub ProductIsScalar : {V : Type 0} → V → (V → V → V) → (V → V → V) → ℕ → (ℕ → ℕ → V) → (ℕ → ℕ → V) → V → Type 0
-ProductIsScalar nil plus times n p q x = IsScalarTable nil n (entry nil plus times n p q) x
+abbrev pub ProductIsScalar : {V : Type 0} → Operations V → ℕ → (ℕ → ℕ → V) → (ℕ → ℕ → V) → V → Type 0
+ProductIsScalar o n p q x = IsScalarTable o n (entry o n p q) x
 
 -- the place (i, j) comes before (k, l), row by row
 abbrev pub IsBefore : ℕ → ℕ → ℕ → ℕ → Type 0

@@ -2,6 +2,7 @@
 use Rattle.std.specs.Prelude.{◌≡◌, ℕ, ◌≤◌, ◌<◌, ◌+◌, ◌*◌, List, All, map, length, slice_index_or}
 use Rattle.std.specs.List.{range_with_len}
 use Rattle.drg_algebra.specs.Tables.{delta}
+use Rattle.drg_fraction.specs.Operations.{Operations}
 use Rattle.drg_matrix.specs.declared.limits.TheConstants.{MAX_SIDE}
 
 -- How many rows and columns there are, the root of all cells, and the cells row by row.
@@ -21,10 +22,10 @@ pub record IsTable {A : Type 0} (root_of : A → ℕ) (t : Square A) : Type 0 wh
 abbrev pub place : ℕ → ℕ → ℕ → ℕ
 place side i j = i * side + j
 
-module _ {A V : Type 0} (value : A → V) (nil : V) (t : Square A) where
+module _ {A V : Type 0} (value : A → V) (operations : ℕ → Operations V) (t : Square A) where
   -- the value in row i and column j
   abbrev pub cell : ℕ → ℕ → V
-  cell i j = slice_index_or (map value t.cells) (place t.side i j) nil
+  cell i j = slice_index_or (map value t.cells) (place t.side i j) (operations t.root).nil
 
   -- the values of row i, and those of column j
   abbrev pub row_of : ℕ → List V
@@ -34,9 +35,9 @@ module _ {A V : Type 0} (value : A → V) (nil : V) (t : Square A) where
   column_of j = map (λ i. cell i j) (range_with_len 0 t.side)
 
 -- v on the diagonal, and nil elsewhere
-abbrev pub IsScalarTable : {V : Type 0} → V → ℕ → (ℕ → ℕ → V) → V → Type 0
-IsScalarTable nil n f v = (i j : ℕ) → i < n → j < n → f i j ≡ delta nil v i j
+abbrev pub IsScalarTable : {V : Type 0} → Operations V → ℕ → (ℕ → ℕ → V) → V → Type 0
+IsScalarTable o n f v = (i j : ℕ) → i < n → j < n → f i j ≡ delta o.nil v i j
 
 -- the values of the first n rows and columns are over the root
-abbrev pub IsTableOver : {V : Type 0} → (V → Type 0) → ℕ → (ℕ → ℕ → V) → Type 0
-IsTableOver IsOver n f = (i j : ℕ) → i < n → j < n → IsOver (f i j)
+abbrev pub IsTableOver : {V : Type 0} → Operations V → ℕ → (ℕ → ℕ → V) → Type 0
+IsTableOver o n f = (i j : ℕ) → i < n → j < n → o.IsOver (f i j)

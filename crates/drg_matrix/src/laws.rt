@@ -9,30 +9,24 @@ use drg_fraction::Field;
 /// The values of a table are over its root, and a cell of a product of tables is the sum over l of the
 /// products of cell l of a row and cell l of a column.
 pub fn table_law<F: Field>()
-    ensures over { CellsAreOver F.value F.nil F.root_of F.IsOver }
+    ensures over { CellsAreOver F.value F.operations F.root_of }
     ensures product { (root : ℕ) → F.HasRoot root
-        → ProductIsSum F.value F.nil F.plus (F.times root) }
+        → ProductIsSum F.value F.operations root }
 {}
 
 /// For square tables of values over a root, `P·Q = xI` with x not 0 gives `Q·P = xI`.
 pub fn right_inverse_is_left<F: Field>()
-    ensures { (root : ℕ) → F.HasRoot root
-        → RightInverseIsLeft F.nil F.plus (F.times root) (F.IsOver root) }
+    ensures { (root : ℕ) → F.HasRoot root → RightInverseIsLeft (F.operations root) }
 {}
 
-/// A frame has at most one family of Krein numbers.
+/// A frame of an array has at most one family of Krein numbers.
 pub fn krein_law<F: Field>()
-    ensures { (root : ℕ) → F.HasRoot root
-        → OneKreinFamily F.nil F.unit F.plus (F.times root) F.minus F.rational
-        (F.IsOver root) (F.IsPositive root) }
+    ensures { (root : ℕ) → F.HasRoot root → OneKreinFamily (F.operations root) }
 {}
 
 /// The frame and the Krein numbers of the complete graph with 4 vertices, by hand.
 pub fn example_law<F: Field>()
-    ensures frame { (root : ℕ) → F.HasRoot root
-        → CompleteFrame F.nil F.unit F.plus (F.times root) F.minus F.rational
-        (F.IsOver root) (F.IsPositive root) }
-    ensures multiplicities { CompleteMultiplicities F.rational }
-    ensures krein { (root : ℕ) → F.HasRoot root
-        → CompleteKrein F.nil F.plus (F.times root) F.rational }
+    ensures frame { (root : ℕ) → F.HasRoot root → CompleteFrame (F.operations root) }
+    ensures multiplicities { (root : ℕ) → CompleteMultiplicities (F.operations root) }
+    ensures krein { (root : ℕ) → F.HasRoot root → CompleteKrein (F.operations root) }
 {}

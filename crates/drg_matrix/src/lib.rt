@@ -3,8 +3,8 @@
 //! A `Table` has from 1 to `MAX_SIDE` rows and as many columns, of values over one root. The product
 //! of two tables is exact, or names the first cell with a work number above `2^127 - 1`. The functions
 //! without code promise laws for the values of every exact field: a cell of a product is a sum of
-//! products, a right inverse of a table is a left one, and a frame has at most one family of Krein
-//! parameters.
+//! products, a right inverse of a table is a left one, and a frame of an array has at most one family
+//! of Krein parameters.
 //!
 //! `specs/Table.antt` says what the cells, rows and columns of a table are, and `specs/Product.antt`
 //! what a product and its faults are. Frames of an array are defined in `specs/Frame.antt`, and their

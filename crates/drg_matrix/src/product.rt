@@ -1,13 +1,14 @@
 //! The rows of a product.
 
-ghost use Rattle.std.specs.Prelude.{◌≡◌, ◌+◌, ◌<◌, All, IfOk, IfErr, OnOk, drop, fold, length, map};
+ghost use Rattle.std.specs.Prelude.{◌≡◌, ◌+◌, ◌≤◌, ◌<◌, All, IfOk, IfErr, OnOk, drop, fold, length, map};
 ghost use Rattle.drg_fraction.specs.Work.{Gives};
 ghost use Rattle.drg_fraction.specs.Field.{products, dot_of, dot_fits, dot_fits_from};
-ghost use Rattle.drg_matrix.specs.Table.{IsTable, column_of};
-ghost use Rattle.drg_matrix.specs.Product.{IsFault, product_at, product_fits_at};
+ghost use Rattle.drg_matrix.specs.Table.{column_of};
+ghost use Rattle.drg_matrix.specs.Product.{IsFault, product_fits_at};
 ghost use Rattle.drg_matrix.specs.Filling.{IsFilled};
 
 use crate::fault::TableFault;
+use crate::limits::MAX_SIDE;
 use crate::table::Table;
 use drg_fraction::{Field, Wide};
 
@@ -21,25 +22,14 @@ pub(crate) fn append_row<F: Field>(
     requires side { left.now.side ≡ right.now.side }
     requires root { left.now.root ≡ right.now.root }
     requires row { row < left.now.side }
-    requires filled { let times = F.times left.now.root in
-        let product_fits = F.product_fits left.now.root in
-        IsFilled F.value F.nil F.root_of left.now.root left.now.side
-        (product_fits_at F.value F.nil F.plus times F.sum_fits product_fits left.now right.now)
-        (product_at F.value F.nil F.plus times left.now right.now)
-        row 0 cells.old.items }
-    ensures filled { let times = F.times left.now.root in
-        let product_fits = F.product_fits left.now.root in
-        OnOk result (IsFilled F.value F.nil F.root_of left.now.root left.now.side
-        (product_fits_at F.value F.nil F.plus times F.sum_fits product_fits left.now right.now)
-        (product_at F.value F.nil F.plus times left.now right.now)
-        (row + 1) 0 cells.new.items) }
-    ensures fault { let times = F.times left.now.root in
-        let product_fits = F.product_fits left.now.root in
-        IfErr result (IsFault left.now.side
-        (product_fits_at F.value F.nil F.plus times F.sum_fits product_fits left.now right.now)) }
+    requires filled { IsFilled F.value F.operations F.root_of left.now right.now row 0 cells.old.items }
+    ensures filled { OnOk result
+        (IsFilled F.value F.operations F.root_of left.now right.now (row + 1) 0 cells.new.items) }
+    ensures fault { IfErr result (IsFault left.now.side
+        (product_fits_at F.value F.operations left.now right.now)) }
 {
     'cols: for col in 0..right.side() {
-        let Ok(value) = dot_column(left.row(row), right, col) else {
+        let Ok(value) = left.product_cell(right, row, col) else {
             return Err(TableFault::Wide {
                 row: row as u8,
                 col: col as u8,
@@ -51,16 +41,15 @@ pub(crate) fn append_row<F: Field>(
 }
 
 /// The row times the column, from left to right, starting at the first product.
-fn dot_column<F: Field>(row: &[F], right: &Table<F>, col: usize) -> Result<F, Wide>
-    requires table { IsTable F.root_of right.now }
+pub(crate) fn dot_column<F: Field>(row: &[F], right: &Table<F>, col: usize) -> Result<F, Wide>
+    requires short { right.now.side ≤ MAX_SIDE }
     requires length { length row.now ≡ right.now.side }
     requires roots { All (λ x. F.root_of x ≡ right.now.root) row.now }
     requires col { col < right.now.side }
-    ensures value { let xs = map F.value row.now in
-        let ys = column_of F.value F.nil right.now col in
-        Gives F.value result
-        (dot_fits F.sum_fits (F.product_fits right.now.root) F.plus (F.times right.now.root) xs ys)
-        (dot_of F.nil F.plus (F.times right.now.root) xs ys) }
+    ensures value { let o = F.operations right.now.root in
+        let xs = map F.value row.now in
+        let ys = column_of F.value F.operations right.now col in
+        Gives F.value result (dot_fits o xs ys) (dot_of o xs ys) }
     ensures root { IfOk result (λ r. F.root_of r ≡ right.now.root) }
 {
     match row {
@@ -82,17 +71,15 @@ fn dot_column_onto<F: Field>(
     col: usize,
 ) -> Result<F, Wide>
     requires so_far { F.root_of so_far ≡ right.now.root }
-    requires table { IsTable F.root_of right.now }
+    requires short { right.now.side ≤ MAX_SIDE }
     requires length { at + length row.now ≡ right.now.side }
     requires roots { All (λ x. F.root_of x ≡ right.now.root) row.now }
     requires col { col < right.now.side }
-    ensures value { let times = F.times right.now.root in
-        let fits = F.product_fits right.now.root in
+    ensures value { let o = F.operations right.now.root in
         let xs = map F.value row.now in
-        let ys = drop at (column_of F.value F.nil right.now col) in
-        Gives F.value result
-        (dot_fits_from F.sum_fits fits F.plus times (F.value so_far) xs ys)
-        (fold F.plus (F.value so_far) (products times xs ys)) }
+        let ys = drop at (column_of F.value F.operations right.now col) in
+        Gives F.value result (dot_fits_from o (F.value so_far) xs ys)
+        (fold o.plus (F.value so_far) (products o xs ys)) }
     ensures root { IfOk result (λ r. F.root_of r ≡ right.now.root) }
 {
     match row {

@@ -2,13 +2,14 @@
 
 ghost use Rattle.std.specs.Prelude.{◌≡◌, ◌↔◌, ◌≤◌, ◌<◌, ℕ, All, IfOk, IfErr, IsTrue, length, map, slice_index_or};
 ghost use Rattle.drg_algebra.specs.Tables.{delta};
+ghost use Rattle.drg_fraction.specs.Work.{Gives};
 ghost use Rattle.drg_matrix.specs.Table.{IsTable, cell, row_of, IsScalarTable};
 ghost use Rattle.drg_matrix.specs.Product.{AllFit, IsFault, product_at, product_fits_at};
 
 use crate::fault::TableFault;
 use crate::limits::MAX_SIDE;
-use crate::product::append_row;
-use drg_fraction::Field;
+use crate::product::{append_row, dot_column};
+use drg_fraction::{Field, Wide};
 use std::alloc::{AllocError, Global};
 use std::marker::Model;
 
@@ -39,7 +40,7 @@ impl<F: Field> Table<F> {
         ensures side { IfOk result (λ t. t.side ≡ side) }
         ensures root { IfOk result (λ t. t.root ≡ F.root_of fill) }
         ensures cells { IfOk result (λ t. (i j : ℕ) → i < side → j < side
-            → cell F.value F.nil t i j ≡ F.value fill) }
+            → cell F.value F.operations t i j ≡ F.value fill) }
     {
         let mut cells = Vec::new(alloc);
         cells.resize(side * side, fill)?;
@@ -62,7 +63,7 @@ impl<F: Field> Table<F> {
     pub fn get(&self, row: usize, col: usize) -> F
         requires row { row < self.now.side }
         requires col { col < self.now.side }
-        ensures value { F.value result ≡ cell F.value F.nil self.now row col }
+        ensures value { F.value result ≡ cell F.value F.operations self.now row col }
         ensures root { F.root_of result ≡ self.now.root }
     {
         self.cells[row * self.side + col]
@@ -75,9 +76,9 @@ impl<F: Field> Table<F> {
         requires root { F.root_of v ≡ self.old.root }
         ensures side { self.new.side ≡ self.old.side }
         ensures root { self.new.root ≡ self.old.root }
-        ensures changed { cell F.value F.nil self.new row col ≡ F.value v }
+        ensures changed { cell F.value F.operations self.new row col ≡ F.value v }
         ensures others { (i j : ℕ) → i < self.old.side → j < self.old.side → ¬ ((i ≡ row) × (j ≡ col))
-            → cell F.value F.nil self.new i j ≡ cell F.value F.nil self.old i j }
+            → cell F.value F.operations self.new i j ≡ cell F.value F.operations self.old i j }
     {
         self.cells[row * self.side + col] = v;
     }
@@ -85,8 +86,9 @@ impl<F: Field> Table<F> {
     /// The row, from its first column.
     pub fn row(&self, row: usize) -> &[F]
         requires { row < self.now.side }
-        ensures values { map F.value result.now ≡ row_of F.value F.nil self.now row }
+        ensures values { map F.value result.now ≡ row_of F.value F.operations self.now row }
         ensures length { length result.now ≡ self.now.side }
+        ensures table { IsTable F.root_of self.now }
         ensures roots { All (λ x. F.root_of x ≡ self.now.root) result.now }
     {
         &self.cells[row * self.side..(row + 1) * self.side]
@@ -96,7 +98,7 @@ impl<F: Field> Table<F> {
     pub fn is_scalar(&self, v: F) -> bool
         requires { F.root_of v ≡ self.now.root }
         ensures { IsTrue result
-            ↔ IsScalarTable F.nil self.now.side (cell F.value F.nil self.now) (F.value v) }
+            ↔ IsScalarTable (F.operations self.now.root) self.now.side (cell F.value F.operations self.now) (F.value v) }
     {
         'rows: for row in 0..self.side {
             if !is_scalar_row(self.row(row), row, v) {
@@ -114,16 +116,12 @@ impl<F: Field> Table<F> {
         ensures side { IfOk result (λ t. t.side ≡ self.now.side) }
         ensures root { IfOk result (λ t. t.root ≡ self.now.root) }
         ensures cells { IfOk result (λ t. (i j : ℕ) → i < self.now.side → j < self.now.side
-            → cell F.value F.nil t i j
-            ≡ product_at F.value F.nil F.plus (F.times self.now.root) self.now other.now i j) }
-        ensures fit { let times = F.times self.now.root in
-            let product_fits = F.product_fits self.now.root in
-            IfOk result (λ t. AllFit self.now.side
-            (product_fits_at F.value F.nil F.plus times F.sum_fits product_fits self.now other.now)) }
-        ensures fault { let times = F.times self.now.root in
-            let product_fits = F.product_fits self.now.root in
-            IfErr result (IsFault self.now.side
-            (product_fits_at F.value F.nil F.plus times F.sum_fits product_fits self.now other.now)) }
+            → cell F.value F.operations t i j
+            ≡ product_at F.value F.operations self.now other.now i j) }
+        ensures fit { IfOk result (λ t. AllFit self.now.side
+            (product_fits_at F.value F.operations self.now other.now)) }
+        ensures fault { IfErr result (IsFault self.now.side
+            (product_fits_at F.value F.operations self.now other.now)) }
     {
         let mut cells = Vec::new(alloc);
         'rows: for row in 0..self.side {
@@ -134,6 +132,21 @@ impl<F: Field> Table<F> {
             root: self.root,
             cells,
         })
+    }
+
+    /// The value of the product in a row and a column, which is the `dot` of that row of this table and
+    /// that column of the other one.
+    pub fn product_cell(&self, other: &Table<F>, row: usize, col: usize) -> Result<F, Wide>
+        requires side { self.now.side ≡ other.now.side }
+        requires root { self.now.root ≡ other.now.root }
+        requires row { row < self.now.side }
+        requires col { col < self.now.side }
+        ensures value { Gives F.value result
+            (product_fits_at F.value F.operations self.now other.now row col)
+            (product_at F.value F.operations self.now other.now row col) }
+        ensures root { IfOk result (λ r. F.root_of r ≡ self.now.root) }
+    {
+        dot_column(self.row(row), other, col)
     }
 
     /// The root of the cells.
@@ -148,7 +161,8 @@ impl<F: Field> Table<F> {
 fn is_scalar_row<F: Field>(row: &[F], place: usize, v: F) -> bool
     requires { All (λ x. F.root_of x ≡ F.root_of v) row.now }
     ensures { IsTrue result ↔ ((j : ℕ) → j < length row.now
-        → slice_index_or (map F.value row.now) j F.nil ≡ delta F.nil (F.value v) place j) }
+        → slice_index_or (map F.value row.now) j (F.operations (F.root_of v)).nil
+        ≡ delta (F.operations (F.root_of v)).nil (F.value v) place j) }
 {
     'items: for (at, item) in row.iter().enumerate() {
         if !is_scalar_item(item, at, place, v) {
@@ -161,7 +175,8 @@ fn is_scalar_row<F: Field>(row: &[F], place: usize, v: F) -> bool
 /// Whether the item is `v` where `at` is the place, and 0 elsewhere.
 fn is_scalar_item<F: Field>(item: &F, at: usize, place: usize, v: F) -> bool
     requires { F.root_of item.now ≡ F.root_of v }
-    ensures { IsTrue result ↔ (F.value item.now ≡ delta F.nil (F.value v) place at) }
+    ensures { IsTrue result
+        ↔ (F.value item.now ≡ delta (F.operations (F.root_of v)).nil (F.value v) place at) }
 {
     if at == place {
         item.same(v)

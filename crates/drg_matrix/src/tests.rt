@@ -4,7 +4,7 @@ ghost use Rattle.drg_fraction.specs.Work.{InRange};
 ghost use Rattle.drg_quadratic.specs.Quadratic.{root_of};
 
 use crate::{Table, TableFault, example_law, krein_law, right_inverse_is_left, table_law};
-use drg_fraction::{Field, Fraction};
+use drg_fraction::{Field, Fraction, Wide};
 use drg_quadratic::Quadratic;
 use std::alloc::{AllocError, Global};
 use std::test::Fail;
@@ -59,11 +59,14 @@ fn products(rt: HostRuntime) -> Result<(), Fail> {
         // The same factor transposed.
         ([5, 7, 6, 8], [17, 23, 39, 53]),
     ] {
-        let product = left.product(rt.alloc(), &wholes(rt.alloc(), right)?)?;
+        let right = wholes(rt.alloc(), right)?;
+        let product = left.product(rt.alloc(), &right)?;
         assert_eq!(rt; product.side(), 2);
         for (place, number) in want.into_iter().enumerate() {
             assert_eq!(rt; product.get(place / 2, place % 2).num(), number);
             assert_eq!(rt; product.row(place / 2)[place % 2].num(), number);
+            let cell = left.product_cell(&right, place / 2, place % 2);
+            assert_eq!(rt; cell, Ok(Fraction::make(number, 1)));
         }
     }
     Ok(())
@@ -78,6 +81,7 @@ fn wide_cells(rt: HostRuntime) -> Result<(), Fail> {
         left.set(row, 0, Fraction::make(i128::MAX, 1));
         let mut right = Table::make(rt.alloc(), 2, zero)?;
         right.set(0, col, Fraction::make(2, 1));
+        assert_eq!(rt; left.product_cell(&right, row, col), Err(Wide));
         match left.product(rt.alloc(), &right) {
             Ok(_) => assert!(rt; false, "{row} {col}"),
             Err(fault) => {

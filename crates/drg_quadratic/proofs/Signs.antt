@@ -7,18 +7,20 @@ use Rattle.drg_algebra.specs.Ring.{◌⊕◌, ◌⊗◌, neg, ring2, ring3}
 use Rattle.drg_algebra.specs.Rational.{ℚ, whole, rationals}
 use Rattle.drg_algebra.specs.Rational as Rational
 use Rattle.drg_algebra.specs.Pairs.{pair_path}
-use Rattle.drg_algebra.specs.Order.{IsAbove, IsPositive}
+use Rattle.drg_algebra.specs.Order.{IsAbove}
 use Rattle.drg_fraction.specs.Field.{HasSign}
+use Rattle.drg_fraction.specs.Rationals.{rational_operations}
 use Rattle.drg_fraction.proofs.Parts.{sign_is}
-use Rattle.drg_quadratic.specs.Values.{IsRoot, IsOver, Value, nil, minus, norm}
+use Rattle.drg_quadratic.specs.Values.{IsRoot, IsOver, Value, norm}
+use Rattle.drg_quadratic.specs.Operations.{value_operations}
 use Rattle.drg_quadratic.specs.Work.{sign_of, are_opposite}
 use Rattle.drg_quadratic.specs.Laws.{minus_nil, not_above, norm_is_nil}
 
 abbrev pub RationalSign : ℚ → Ordering → Type 0
-RationalSign = HasSign IsAbove (whole (pos 0)) Rational.minus
+RationalSign = HasSign rational_operations
 
 abbrev pub ValueSign : ℕ → Value → Ordering → Type 0
-ValueSign root = HasSign (IsPositive root) nil minus
+ValueSign root = HasSign (value_operations root)
 
 pub rational_sign : (q : ℚ) (o : Ordering) → o ≡ sign_of q → RationalSign q o
 rational_sign q o e = subst (RationalSign q) (sym e) (sign_is q)

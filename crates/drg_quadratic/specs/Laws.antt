@@ -1,5 +1,5 @@
 -- The values over a root meet the laws of an exact field.
-use Rattle.std.specs.Prelude.{◌≡◌, ℕ, zero, suc, pos, refl}
+use Rattle.std.specs.Prelude.{◌≡◌, ℕ, zero, suc, ◌<◌, pos, refl}
 use Rattle.std.proofs.Common.{ap, ap₂, ◌∙◌, subst, ◌⊎◌, inl, inr, arith}
 use Rattle.drg_algebra.specs.Ring.{none, one, ◌⊕◌, ◌⊗◌, neg, from_one, ring2, ring3, ring4}
 use Rattle.drg_algebra.specs.Rational.{ℚ, whole, rationals, rational_numbers}
@@ -13,9 +13,11 @@ use Rattle.drg_algebra.proofs.Maps.{constant_map, embedded_map}
 use Rattle.drg_algebra.proofs.Pairs.{pair_laws_hold}
 use Rattle.drg_algebra.proofs.RootValues.{square_of_root}
 use Rattle.drg_algebra.proofs.Quotients.{field_laws_hold}
+use Rattle.drg_algebra.proofs.NumberOrder.{sign_of_whole}
 use Rattle.drg_algebra.proofs.Order.{rationals_ordered, values_ordered, sign_of_embedded}
 use Rattle.drg_fraction.specs.Field.{IsExactField}
 use Rattle.drg_quadratic.specs.Values.{IsRoot, IsOver, flat_prop, Value, nil, unit, plus, minus, times, invert, norm, rational, square_root}
+use Rattle.drg_quadratic.specs.Operations.{value_operations}
 
 -- ---- inverses
 square_is_nil : (q : ℚ) → Rational.times q q ≡ whole (pos 0) → q ≡ whole (pos 0)
@@ -123,6 +125,19 @@ is_its_parts zero z o = pair_path _ _
     (o refl ∙ ring2 rationals (λ a b. none) (λ a b. none ⊕ product_b none (neg none) b none none none) refl z.a z.b)
 is_its_parts (suc n) z o = (pair_laws_hold rational_numbers (whole (pos 0)) (Rational.minus (whole (pos (suc n))))).split z
 
+-- √root is above nil, and its parts are 0 and 1
+root_positive : (root : ℕ) → 0 < root → IsPositive root (square_root root)
+root_positive zero h = absurd (omega arith)
+root_positive (suc n) h = inl (inr refl, inl ((sign_of_whole (pos 1)).1 (record { lt = tt })), λ q. rational_field.apart (ap (λ (z : Value). z.b) q))
+
+first_of_root : (root : ℕ) → 0 < root → (square_root root).a ≡ whole (pos 0)
+first_of_root zero h = refl
+first_of_root (suc n) h = refl
+
+second_of_root : (root : ℕ) → 0 < root → (square_root root).b ≡ whole (pos 1)
+second_of_root zero h = absurd (omega arith)
+second_of_root (suc n) h = refl
+
 told : (z : Value) → (z ≡ nil) ⊎ (¬ (z ≡ nil))
 told z = go (rational_field.test z.a) (rational_field.test z.b)
   where
@@ -131,8 +146,7 @@ told z = go (rational_field.test z.a) (rational_field.test z.b)
     go (inl e) (inr f) = inr (λ q. f (ap (λ (x : Value). x.b) q))
     go (inr e) f = inr (λ q. e (ap (λ (x : Value). x.a) q))
 
-pub value_laws : (root : ℕ) → IsRoot root
-    → IsExactField nil unit plus (times root) minus (invert root) rational (square_root root) (λ z. z.a) (λ z. z.b) (IsOver root) (IsPositive root) root
+pub value_laws : (root : ℕ) → IsRoot root → IsExactField (value_operations root) root
 value_laws root h = record {
   ring = (root_values root).laws;
   apart = λ e. rational_field.apart (ap (λ (z : Value). z.a) e);
@@ -157,13 +171,19 @@ value_laws root h = record {
   whole_plus = (embedded_map root).plus;
   whole_times = (embedded_map root).times;
   whole_positive = λ n k. (sign_of_embedded root n).1 k;
+  squarefree = λ k. (h k).0;
+  above_one = λ k. (h k).1;
   square = root_square root;
+  root_positive = root_positive root;
   by_parts = is_its_parts root;
+  flat = λ e z o. o e;
   nil_by_parts = λ z o e f. pair_path _ _ e f;
-  first_rational = λ q. refl;
-  second_rational = λ q. refl;
-  first_plus = λ x y. refl;
-  second_plus = λ x y. refl;
-  first_scaled = λ q z. ring4 rationals (λ k q a b. product_a none (neg k) q none a b) (λ k q a b. q ⊗ a) refl (whole (pos root)) q z.a z.b;
-  second_scaled = λ q z. ring4 rationals (λ k q a b. product_b none (neg k) q none a b) (λ k q a b. q ⊗ b) refl (whole (pos root)) q z.a z.b;
+  rational_part_of_rational = λ q. refl;
+  root_part_of_rational = λ q. refl;
+  rational_part_of_root = first_of_root root;
+  root_part_of_root = second_of_root root;
+  rational_part_of_sum = λ x y. refl;
+  root_part_of_sum = λ x y. refl;
+  rational_part_scaled = λ q z. ring4 rationals (λ k q a b. product_a none (neg k) q none a b) (λ k q a b. q ⊗ a) refl (whole (pos root)) q z.a z.b;
+  root_part_scaled = λ q z. ring4 rationals (λ k q a b. product_b none (neg k) q none a b) (λ k q a b. q ⊗ b) refl (whole (pos root)) q z.a z.b;
 }

@@ -7,8 +7,9 @@
 //!
 //! The values and their operations stand in `specs/Values.antt`, on the ring and the order of
 //! `drg_algebra`; which operations on fractions each of them takes, in `specs/Work.antt`; the value of a
-//! `Quadratic` in `specs/Quadratic.antt`, the laws of an exact field in `specs/Laws.antt`, and the text
-//! in `specs/Text.antt`.
+//! `Quadratic` in `specs/Quadratic.antt`, the operations as those of an exact field in
+//! `specs/Operations.antt`, the laws of an exact field in `specs/Laws.antt`, and the text in
+//! `specs/Text.antt`.
 #![tactic(auto)]
 
 mod laws;

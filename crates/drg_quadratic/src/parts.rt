@@ -1,5 +1,5 @@
 ghost use Rattle.std.specs.Prelude.{◌≡◌, pos};
-ghost use Rattle.drg_algebra.specs.Rational.{minus, times, whole};
+ghost use Rattle.drg_algebra.specs.Rational.{times, whole};
 ghost use Rattle.drg_fraction.specs.Fraction.{rational_of};
 ghost use Rattle.drg_fraction.specs.Work.{Gives, product_fits};
 ghost use Rattle.drg_quadratic.specs.Work.{sign_of};
@@ -8,18 +8,11 @@ ghost use Rattle.drg_quadratic.specs.Text.{magnitude_of};
 use drg_fraction::{Field, Fraction, Wide};
 use std::cmp::Ordering;
 
-// The fraction with the other sign.
-pub(crate) fn negated(part: Fraction) -> Fraction
-    ensures { rational_of result ≡ minus (rational_of part) }
-{
-    Fraction::make(-part.num(), part.den())
-}
-
 // The fraction without its sign.
 pub(crate) fn magnitude(part: Fraction) -> Fraction
     ensures { rational_of result ≡ magnitude_of (rational_of part) }
 {
-    if part.num() < 0 { negated(part) } else { part }
+    if part.num() < 0 { part.negated() } else { part }
 }
 
 // How the fraction stands to 0.

@@ -2,10 +2,10 @@ ghost use Rattle.std.specs.Prelude.{◌≡◌, pos};
 ghost use Rattle.drg_algebra.specs.Rational.{whole};
 ghost use Rattle.drg_fraction.specs.Fraction.{rational_of};
 ghost use Rattle.drg_fraction.specs.Work.{Gives};
-ghost use Rattle.drg_quadratic.specs.Values.{IsRoot, flat_prop, nil, conjugate, norm};
+ghost use Rattle.drg_quadratic.specs.Values.{IsRoot, flat_prop, conjugate, norm};
 ghost use Rattle.drg_quadratic.specs.Work.{norm_fits};
 
-use crate::parts::{negated, root_times, sign};
+use crate::parts::{root_times, sign};
 use drg_fraction::{Field, Fraction, Wide};
 use std::cmp::Ordering;
 
@@ -55,7 +55,7 @@ impl Quadratic {
     {
         Quadratic {
             a: self.a,
-            b: negated(self.b),
+            b: self.b.negated(),
             root: self.root,
         }
     }
@@ -65,17 +65,16 @@ impl Quadratic {
         ensures { Gives rational_of result
             (norm_fits (root_of self) (value_of self)) (norm (root_of self) (value_of self)) }
     {
-        let square = self.a.mul(self.a)?;
-        let scaled = root_times(self.root, self.b.mul(self.b)?)?;
+        let square = self.a.squared()?;
+        let scaled = root_times(self.root, self.b.squared()?)?;
         square.sub(scaled)
     }
 }
 
 /// The exact field of the values over a root.
 impl Field for Quadratic {
-    ghost use Rattle.drg_algebra.specs.Order.{IsPositive};
-    ghost use Rattle.drg_quadratic.specs.Values.{Value, unit, plus, minus, times, invert, rational, square_root, IsOver};
-    ghost use Rattle.drg_quadratic.specs.Work.{sum_fits, difference_fits, product_fits, quotient_fits, sign_fits};
+    ghost use Rattle.drg_quadratic.specs.Values.{Value};
+    ghost use Rattle.drg_quadratic.specs.Operations.{value_operations};
     ghost use Rattle.drg_quadratic.specs.Laws.{value_laws};
     ghost use Rattle.drg_quadratic.specs.Quadratic.{value_of, root_of, one_quadratic};
 
@@ -85,41 +84,9 @@ impl Field for Quadratic {
 
     ghost root_of = { root_of };
 
-    ghost nil = { nil };
-
-    ghost unit = { unit };
-
-    ghost plus = { plus };
-
-    ghost minus = { minus };
-
-    ghost times = { times };
-
-    ghost invert = { invert };
-
-    ghost rational = { rational };
-
-    ghost square_root = { square_root };
-
-    ghost first = { λ z. z.a };
-
-    ghost second = { λ z. z.b };
-
     ghost HasRoot = { IsRoot };
 
-    ghost IsOver = { IsOver };
-
-    ghost IsPositive = { IsPositive };
-
-    ghost sum_fits = { sum_fits };
-
-    ghost difference_fits = { difference_fits };
-
-    ghost product_fits = { product_fits };
-
-    ghost quotient_fits = { quotient_fits };
-
-    ghost sign_fits = { sign_fits };
+    ghost operations = { value_operations };
 
     ghost laws = { value_laws };
 
@@ -147,6 +114,10 @@ impl Field for Quadratic {
             b: Fraction::make(f, 2),
             root,
         }
+    }
+
+    fn of_parts(root: u32, a: Fraction, b: Fraction) -> Quadratic {
+        Quadratic { a, b, root }
     }
 
     fn add(self, other: Quadratic) -> Result<Quadratic, Wide> {

@@ -16,6 +16,15 @@ fn over_two(a: i64, b: i64) -> Quadratic
     Quadratic::make(a, b, 2)
 }
 
+/// The same number, by its parts.
+fn by_parts(a: i64, b: i64) -> Quadratic
+    ensures { root_of result ≡ 2 }
+{
+    let a = Fraction::make(i128::from(a), 1);
+    let b = Fraction::make(i128::from(b), 1);
+    Quadratic::of_parts(2, a, b)
+}
+
 /// The number `(s + f√5)/2`.
 fn half_over_five(s: i128, f: i128) -> Quadratic
     requires s { unsigned_abs s ≤ 65536 }
@@ -54,6 +63,8 @@ fn operations(rt: HostRuntime) {
     for (answer, want) in [
         (x.add(y), Some([2, 1, 0, 1])),
         (x.sub(y), Some([0, 1, 2, 1])),
+        (by_parts(1, 1).sub(y), Some([0, 1, 2, 1])),
+        (x.mul(over_two(-3, 0)), Some([-3, 1, -3, 1])),
         (x.mul(y), Some([-1, 1, 0, 1])),
         (quotient(one, over_two(3, -2)), Some([3, 1, 2, 1])),
         (quotient(one, over_two(0, 2)), Some([0, 1, 1, 4])),

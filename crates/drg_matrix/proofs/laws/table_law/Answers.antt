@@ -3,7 +3,7 @@ use Rattle.drg_matrix.proofs.Products.{product_is_sum}
 use Rattle.drg_matrix.proofs.laws.table_law.Goals as goal
 
 pub returns-clause-over : goal.returns-clause-over
-returns-clause-over g c = cells_are_over g.F.Field.value g.F.Field.nil g.F.Field.root_of g.F.Field.IsOver g.met.F.Field.over
+returns-clause-over g c = cells_are_over g.F.Field.value g.F.Field.operations g.F.Field.root_of g.met.F.Field.over
 
 pub returns-clause-product : goal.returns-clause-product
-returns-clause-product g c = λ root h. product_is_sum (g.met.F.Field.laws root h).ring g.F.Field.value
+returns-clause-product g c = λ root h. product_is_sum g.F.Field.value g.F.Field.operations root (g.met.F.Field.laws root h).ring

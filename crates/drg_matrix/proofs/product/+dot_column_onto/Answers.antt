@@ -10,8 +10,8 @@ returns-in_err-product-in-len1-up-clause-value g t c =
     let some = c.in-len1-up.len_at_least in
     let items = split_first c.args.row.now c.first-item.result some c.first-item.is in
     let root = ap f.root_of c.first-item.is ∙ c.requires.roots 0 c.first-item.result (omega (arith, some)) in
-    let read : f.value c.get.result ≡ cell f.value f.nil c.args.right.now c.args.at c.args.col = c.get.ensures.value in
-    let column = column_from f.value f.nil c.args.right.now c.args.col c.args.at (omega (arith, c.requires.length, some)) in
+    let read : f.value c.get.result ≡ cell f.value f.operations c.args.right.now c.args.at c.args.col = c.get.ensures.value in
+    let column = column_from f.value f.operations c.args.right.now c.args.col c.args.at (omega (arith, c.requires.length, some)) in
     let wide = rw (root, read) at c.in_err-product-in-len1-up.ensures.value in
     let error = c.from_residual.ensures.0 in
     rw (items, column, wide) (search rules)
@@ -22,10 +22,10 @@ returns-in_err-add-in-len1-up-clause-value g t c =
     let some = c.in-len1-up.len_at_least in
     let items = split_first c.args.row.now c.first-item.result some c.first-item.is in
     let root = ap f.root_of c.first-item.is ∙ c.requires.roots 0 c.first-item.result (omega (arith, some)) in
-    let read : f.value c.get.result ≡ cell f.value f.nil c.args.right.now c.args.at c.args.col = c.get.ensures.value in
-    let column = column_from f.value f.nil c.args.right.now c.args.col c.args.at (omega (arith, c.requires.length, some)) in
+    let read : f.value c.get.result ≡ cell f.value f.operations c.args.right.now c.args.at c.args.col = c.get.ensures.value in
+    let column = column_from f.value f.operations c.args.right.now c.args.col c.args.at (omega (arith, c.requires.length, some)) in
     let product = rw (root, read) at c.in_ok-product-in-len1-up.ensures.value in
-    let wide = rw product.1 at c.in_err-add-in-len1-up.ensures.value in
+    let wide = rw (c.requires.so_far, product.1) at c.in_err-add-in-len1-up.ensures.value in
     let error = c.from_residual-in_err-add-in-len1-up.ensures.0 in
     rw (items, column, product.0, wide) (search rules)
 
@@ -35,10 +35,10 @@ returns-in_ok-add-in-len1-up-clause-value g t c =
     let some = c.in-len1-up.len_at_least in
     let items = split_first c.args.row.now c.first-item.result some c.first-item.is in
     let root = ap f.root_of c.first-item.is ∙ c.requires.roots 0 c.first-item.result (omega (arith, some)) in
-    let read : f.value c.get.result ≡ cell f.value f.nil c.args.right.now c.args.at c.args.col = c.get.ensures.value in
-    let column = column_from f.value f.nil c.args.right.now c.args.col c.args.at (omega (arith, c.requires.length, some)) in
+    let read : f.value c.get.result ≡ cell f.value f.operations c.args.right.now c.args.at c.args.col = c.get.ensures.value in
+    let column = column_from f.value f.operations c.args.right.now c.args.col c.args.at (omega (arith, c.requires.length, some)) in
     let product = rw (root, read) at c.in_ok-product-in-len1-up.ensures.value in
-    let sum = rw product.1 at c.in_ok-add-in-len1-up.ensures.value in
+    let sum = rw (c.requires.so_far, product.1) at c.in_ok-add-in-len1-up.ensures.value in
     let answer = rw sum.1 at c.dot_column_onto.ensures.value in
     rw (items, column, product.0, sum.0) answer
 
@@ -50,4 +50,4 @@ dot_column_onto-requires g t c κs within =
     let long = ap length items in
     let later = All-drop (λ x. f.root_of x ≡ c.args.right.now.root) 1 c.args.row.now c.requires.roots in
     let rest = All-take (λ x. f.root_of x ≡ c.args.right.now.root) (length c.args.row.now - 1) (drop 1 c.args.row.now) later in
-    (search rules, (within, (c.in_ok-add-in-len1-up.ensures.root ∙ c.requires.so_far, (c.requires.table, (omega (arith, long, c.requires.length), (rest, c.requires.col))))))
+    (search rules, (within, (c.in_ok-add-in-len1-up.ensures.root ∙ c.requires.so_far, (c.requires.short, (omega (arith, long, c.requires.length), (rest, c.requires.col))))))

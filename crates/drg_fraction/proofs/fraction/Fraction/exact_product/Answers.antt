@@ -1,27 +1,46 @@
-use Rattle.std.proofs.Common.{◌≡◌, ◌*ℤ◌, ap₂, ◌∙◌, rules}
-use Rattle.drg_algebra.specs.Ratio.{ratio}
-use Rattle.drg_algebra.specs.Reduced.{common, top, bottom}
+use Rattle.std.proofs.Common.{◌≡◌, pos, refl, ap, ◌∙◌, arith, rules}
+use Rattle.std.proofs.lemmas.Int.{ints}
+use Rattle.drg_algebra.specs.Rational.{whole}
 use Rattle.drg_fraction.specs.Fraction.{rational_of}
-use Rattle.drg_fraction.proofs.Products.{product_under_above, product_is}
-use Rattle.drg_fraction.proofs.Coprime.{product_reduced}
+use Rattle.drg_fraction.proofs.Shortcuts.{whole_product_fits, whole_product_is, zero_by_any_fits, zero_by_any_is, any_by_zero_fits, any_by_zero_is}
 use Rattle.drg_fraction.proofs.fraction.Fraction.exact_product.Goals as goal
 
-pub invariant_of-result : goal.invariant_of-result
-invariant_of-result c =
-    let x = c.args.self in
-    let y = c.args.other in
-    let over : c.in_ok-over.over.value ≡ top x.num.value y.den.value *ℤ top y.num.value x.den.value = cc c.in_ok-over.ensures.1 in
-    let under : c.in_ok-under.under.value ≡ bottom y.num.value x.den.value *ℤ bottom x.num.value y.den.value = cc c.in_ok-under.ensures.1 in
-    record {
-      above = rw under (product_under_above x.num.value x.den.value y.num.value y.den.value x.above y.above);
-      reduced = ap₂ common over under ∙ product_reduced x.num.value x.den.value y.num.value y.den.value x.above y.above x.reduced y.reduced;
-    }
-
-pub returns : goal.returns
+pub returns-in_ok-times : goal.returns-in_ok-times
 unfolding rational_of
-returns c =
+returns-in_ok-times c =
     let x = c.args.self in
     let y = c.args.other in
-    let over : c.in_ok-over.over.value ≡ top x.num.value y.den.value *ℤ top y.num.value x.den.value = cc c.in_ok-over.ensures.1 in
-    let under : c.in_ok-under.under.value ≡ bottom y.num.value x.den.value *ℤ bottom x.num.value y.den.value = cc c.in_ok-under.ensures.1 in
-    (search rules, ap₂ ratio over under ∙ product_is x.num.value x.den.value y.num.value y.den.value x.above y.above)
+    let b : x.den.value ≡ pos 1 = c.if-is_whole.ensures.0 refl in
+    let d : y.den.value ≡ pos 1 = c.if-is_whole-2.ensures.0 refl in (
+      whole_product_fits x.num.value x.den.value y.num.value y.den.value b d ∙ c.in_ok-times.ensures.0,
+      c.whole.ensures ∙ ap whole c.in_ok-times.ensures.1 ∙ whole_product_is x.num.value x.den.value y.num.value y.den.value b d,
+    )
+
+pub returns-in_err-times : goal.returns-in_err-times
+returns-in_err-times c =
+    let x = c.args.self in
+    let y = c.args.other in
+    let b : x.den.value ≡ pos 1 = c.if-is_whole.ensures.0 refl in
+    let d : y.den.value ≡ pos 1 = c.if-is_whole-2.ensures.0 refl in
+    let error = c.from_residual.ensures.0 in
+    rw (whole_product_fits x.num.value x.den.value y.num.value y.den.value b d) (search rules)
+
+pub returns-then-self-eq0 : goal.returns-then-self-eq0
+unfolding rational_of
+returns-then-self-eq0 c =
+    let x = c.args.self in
+    let y = c.args.other in
+    let a : x.num.value ≡ pos 0 = grind (arith, ints) in (
+      zero_by_any_fits x.num.value x.den.value y.num.value y.den.value a x.above x.reduced y.above,
+      zero_by_any_is x.num.value x.den.value (rational_of y) a x.above x.reduced,
+    )
+
+pub returns-then-other-eq0 : goal.returns-then-other-eq0
+unfolding rational_of
+returns-then-other-eq0 c =
+    let x = c.args.self in
+    let y = c.args.other in
+    let n : y.num.value ≡ pos 0 = grind (arith, ints) in (
+      any_by_zero_fits x.num.value x.den.value y.num.value y.den.value n y.above y.reduced x.above,
+      any_by_zero_is y.num.value y.den.value (rational_of x) n y.above y.reduced,
+    )

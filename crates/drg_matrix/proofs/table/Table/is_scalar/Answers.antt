@@ -10,15 +10,17 @@ returns-then-not-is_scalar_row g c =
     let f = g.F.Field in
     let t = c.args.self.now in
     let side = ap (λ t. t.side) c.self.view_is in
-    let wanted = delta f.nil (f.value c.args.v) c.rows.row in
-    let row = cells_to_row f.value f.nil t c.rows.row c.row.result.now c.row.ensures.values c.row.ensures.length wanted in
-    (λ never. absurd (false≢true never), λ all. c.if-not-is_scalar_row.ensures.1 (row (λ j h. all c.rows.row j (omega (arith, side)) h)))
+    let wanted = delta (f.operations t.root).nil (f.value c.args.v) c.rows.row in
+    let told = rw c.requires at c.if-not-is_scalar_row.ensures in
+    let row = cells_to_row f.value f.operations t c.rows.row c.row.result.now c.row.ensures.values c.row.ensures.length wanted in
+    (λ never. absurd (false≢true never), λ all. told.1 (row (λ j h. all c.rows.row j (omega (arith, side)) h)))
 
 pub rows-preserved : goal.rows-preserved
 rows-preserved g c = λ i j h inside.
     let f = g.F.Field in
     let t = c.args.self.now in
-    let wanted = delta f.nil (f.value c.args.v) in
-    let row = row_to_cells f.value f.nil t c.rows.row c.row.result.now c.row.ensures.values c.row.ensures.length (wanted c.rows.row) in
-    below_more (λ (i : ℕ). (j : ℕ) → j < t.side → cell f.value f.nil t i j ≡ wanted i j) c.rows.row (λ i h j. c.rows.invariant i j h)
-    (row (c.if-not-is_scalar_row.ensures.0 refl)) i h j inside
+    let wanted = delta (f.operations t.root).nil (f.value c.args.v) in
+    let told = rw c.requires at c.if-not-is_scalar_row.ensures in
+    let row = row_to_cells f.value f.operations t c.rows.row c.row.result.now c.row.ensures.values c.row.ensures.length (wanted c.rows.row) in
+    below_more (λ (i : ℕ). (j : ℕ) → j < t.side → cell f.value f.operations t i j ≡ wanted i j) c.rows.row (λ i h j. c.rows.invariant i j h)
+    (row (told.0 refl)) i h j inside

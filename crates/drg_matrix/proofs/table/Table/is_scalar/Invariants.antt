@@ -4,4 +4,6 @@ use Rattle.drg_matrix.specs.Table.{cell}
 use Rattle.drg_matrix.proofs.table.Table.is_scalar.Given as goal
 
 abbrev pub invariant-rows : goal.invariant-rows
-invariant-rows g l = (i j : ℕ) → i < l.row → j < l.self.side → cell g.F.Field.value g.F.Field.nil l.self i j ≡ delta g.F.Field.nil (g.F.Field.value l.v) i j
+invariant-rows g l =
+    let f = g.F.Field in
+    (i j : ℕ) → i < l.row → j < l.self.side → cell f.value f.operations l.self i j ≡ delta (f.operations l.self.root).nil (f.value l.v) i j
