@@ -1,12 +1,17 @@
 -- A graph that passes the test belongs to the array.
 use Rattle.std.proofs.Common.{◌≡◌, ℕ, suc, ◌≤◌, ◌<◌, Bool, true, List, [], ◌∷◌, length, refl, sym, arith, inl, inr}
-use Rattle.std.specs.Prelude.{◌==◌, ◌&&◌, not}
+use Rattle.std.specs.Prelude.{◌==◌, ◌&&◌, not, zero}
+use Rattle.std.proofs.Common.{◌∙◌}
+use Rattle.drg_array.specs.Entries.{IsArray, c_at}
+use Rattle.drg_graph.specs.Graph.{IsDistanceRegular}
+use Rattle.drg_graph.specs.Witness.{OneArrayLaw}
+use Rattle.drg_graph.proofs.DistanceLaws.{distances_law}
 use Rattle.drg_algebra.specs.Sums.{is_among, below}
 use Rattle.drg_algebra.proofs.Tests.{both, either, never, not-true, same-number, any-out, below-in, below-out}
 use Rattle.drg_array.specs.Entries.{Entries, diameter, b_at}
 use Rattle.drg_graph.specs.Graph.{Graph, is_vertex, is_adjacent, is_at_distance, neighbours_at}
 use Rattle.drg_graph.proofs.Distances.{distance-unique, distance-left, distance-right}
-use Rattle.drg_graph.specs.Witness.{all_of, is_near, nearer_right, is_right, is_regular, CheckLaw, petersen, PetersenLaw, heptagon, HeptagonLaw}
+use Rattle.drg_graph.specs.Witness.{all_of, is_near, nearer_right, is_right, is_regular, CheckLaw, petersen, PetersenLaw, heptagon, HeptagonLaw, edge, EdgeLaw, complete, CompleteLaw, octahedron, OctahedronLaw, cube, CubeLaw}
 
 all-out : (p : ℕ → Bool) (xs : List ℕ) (x : ℕ) → all_of p xs ≡ true → is_among x xs ≡ true → p x ≡ true
 all-out p [] x e among = (let f = among in cc)
@@ -64,3 +69,45 @@ pub heptagon_law : HeptagonLaw
 unfolding is_adjacent
 heptagon_law =
     check_law heptagon (record { b = 2 ∷ 1 ∷ 1 ∷ []; c = 1 ∷ 1 ∷ 1 ∷ [] }) 0 3 (refl, (refl, (refl, (refl, (refl, (refl, (refl, tt))))))) refl refl
+
+shallow : (g : Graph) (a b : Entries) → IsDistanceRegular g a → IsDistanceRegular g b → diameter a ≤ diameter b
+shallow g a b ra rb =
+    let f = ra.far in
+    let n = rb.near f.0 f.1 (distance-left g (diameter a) f.0 f.1 f.2) (distance-right g (diameter a) f.0 f.1 f.2) in
+    let same = distance-unique g (diameter a) n.0 f.0 f.1 f.2 n.2 in
+    let small = n.1 in
+    omega (arith, same, small)
+
+nearer_same : (g : Graph) (a b : Entries) → IsArray a → IsDistanceRegular g a → IsDistanceRegular g b → (i : ℕ) → i ≤ diameter a → c_at a i ≡ c_at b i
+nearer_same g a b ia ra rb zero h = refl
+nearer_same g a b ia ra rb (suc i) h =
+    let f = ra.far in
+    let y = distances_law g a f.0 (suc i) ia ra (distance-left g (diameter a) f.0 f.1 f.2) h in
+    sym (ra.nearer i f.0 y.0 y.1) ∙ rb.nearer i f.0 y.0 y.1
+
+pub one_array_law : OneArrayLaw
+one_array_law g a b ia ra rb =
+    let one = shallow g a b ra rb in
+    let two = shallow g b a rb ra in (
+      omega (arith, one, two),
+      λ i h.
+          let f = ra.far in
+          let y = distances_law g a f.0 i ia ra (distance-left g (diameter a) f.0 f.1 f.2) h in
+          (sym (ra.further i f.0 y.0 y.1) ∙ rb.further i f.0 y.0 y.1, nearer_same g a b ia ra rb i h),
+    )
+
+pub edge_law : EdgeLaw
+unfolding is_adjacent
+edge_law = check_law edge (record { b = 1 ∷ []; c = 1 ∷ [] }) 3 7 (refl, (refl, tt)) refl refl
+
+pub complete_law : CompleteLaw
+unfolding is_adjacent
+complete_law = check_law complete (record { b = 3 ∷ []; c = 1 ∷ [] }) 0 9 (refl, (refl, (refl, (refl, tt)))) refl refl
+
+pub octahedron_law : OctahedronLaw
+unfolding is_adjacent
+octahedron_law = check_law octahedron (record { b = 4 ∷ 1 ∷ []; c = 1 ∷ 4 ∷ [] }) 0 1 (refl, (refl, (refl, (refl, (refl, (refl, tt)))))) refl refl
+
+pub cube_law : CubeLaw
+unfolding is_adjacent
+cube_law = check_law cube (record { b = 3 ∷ 2 ∷ 1 ∷ []; c = 1 ∷ 2 ∷ 3 ∷ [] }) 0 7 (refl, (refl, (refl, (refl, (refl, (refl, (refl, (refl, tt)))))))) refl refl

@@ -1,8 +1,8 @@
 -- A test of what belongs to an array, and graphs that pass it: so there are graphs that are distance-regular.
-use Rattle.std.specs.Prelude.{ℕ, zero, suc, Bool, true, not, ◌==◌, ◌&&◌, ◌||◌, List, [], ◌∷◌, IsTrue}
+use Rattle.std.specs.Prelude.{◌≡◌, ◌≤◌, ℕ, zero, suc, Bool, true, not, ◌==◌, ◌&&◌, ◌||◌, List, [], ◌∷◌, IsTrue}
 use Rattle.std.specs.List.{list_any}
 use Rattle.drg_algebra.specs.Sums.{below, AreDistinct}
-use Rattle.drg_array.specs.Entries.{Entries, diameter, b_at, c_at}
+use Rattle.drg_array.specs.Entries.{Entries, IsArray, diameter, b_at, c_at}
 use Rattle.drg_graph.specs.Graph.{Graph, is_at_distance, HasDistance, neighbours_at, IsDistanceRegular}
 
 abbrev pub all_of : (ℕ → Bool) → List ℕ → Bool
@@ -51,3 +51,36 @@ PetersenLaw = IsDistanceRegular petersen (record { b = 3 ∷ 2 ∷ []; c = 1 ∷
 -- {2,1,1;1,1,1}
 abbrev pub HeptagonLaw : Type 0
 HeptagonLaw = IsDistanceRegular heptagon (record { b = 2 ∷ 1 ∷ 1 ∷ []; c = 1 ∷ 1 ∷ 1 ∷ [] })
+
+-- a graph belongs to at most one array
+abbrev pub OneArrayLaw : Type 0
+OneArrayLaw = (g : Graph) (a b : Entries) → IsArray a → IsDistanceRegular g a → IsDistanceRegular g b
+    → (diameter a ≡ diameter b) × ((i : ℕ) → i ≤ diameter a → (b_at a i ≡ b_at b i) × (c_at a i ≡ c_at b i))
+
+abbrev pub edge : Graph
+edge = record { vertices = 7 ∷ 3 ∷ []; pairs = (3, 7) ∷ (7, 3) ∷ (3, 7) ∷ (3, 3) ∷ (3, 9) ∷ (9, 9) ∷ [] }
+
+-- {1;1}
+abbrev pub EdgeLaw : Type 0
+EdgeLaw = IsDistanceRegular edge (record { b = 1 ∷ []; c = 1 ∷ [] })
+
+abbrev pub complete : Graph
+complete = record { vertices = 9 ∷ 0 ∷ 4 ∷ 2 ∷ []; pairs = (0, 9) ∷ (0, 4) ∷ (2, 0) ∷ (2, 9) ∷ (4, 2) ∷ (9, 4) ∷ [] }
+
+-- {3;1}
+abbrev pub CompleteLaw : Type 0
+CompleteLaw = IsDistanceRegular complete (record { b = 3 ∷ []; c = 1 ∷ [] })
+
+abbrev pub octahedron : Graph
+octahedron = record { vertices = 5 ∷ 1 ∷ 4 ∷ 2 ∷ 3 ∷ 0 ∷ []; pairs = (0, 2) ∷ (2, 0) ∷ (0, 3) ∷ (0, 4) ∷ (0, 5) ∷ (1, 2) ∷ (1, 3) ∷ (1, 4) ∷ (5, 1) ∷ (2, 4) ∷ (2, 5) ∷ (3, 4) ∷ (3, 5) ∷ (6, 0) ∷ (1, 1) ∷ [] }
+
+-- {4,1;1,4}
+abbrev pub OctahedronLaw : Type 0
+OctahedronLaw = IsDistanceRegular octahedron (record { b = 4 ∷ 1 ∷ []; c = 1 ∷ 4 ∷ [] })
+
+abbrev pub cube : Graph
+cube = record { vertices = 0 ∷ 1 ∷ 2 ∷ 3 ∷ 4 ∷ 5 ∷ 6 ∷ 7 ∷ []; pairs = (0, 1) ∷ (2, 3) ∷ (4, 5) ∷ (6, 7) ∷ (0, 2) ∷ (1, 3) ∷ (4, 6) ∷ (5, 7) ∷ (0, 4) ∷ (1, 5) ∷ (2, 6) ∷ (3, 7) ∷ [] }
+
+-- {3,2,1;1,2,3}
+abbrev pub CubeLaw : Type 0
+CubeLaw = IsDistanceRegular cube (record { b = 3 ∷ 2 ∷ 1 ∷ []; c = 1 ∷ 2 ∷ 3 ∷ [] })
