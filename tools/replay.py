@@ -289,6 +289,16 @@ def work(value: int) -> int:
     return value
 
 
+def is_squarefree(n: int) -> bool:
+    """Whether no square above 1 divides n, which is at least 1."""
+    k = 2
+    while k * k <= n:
+        if n % (k * k) == 0:
+            return False
+        k += 1
+    return True
+
+
 class Judge:
     """Judges one derivation. Holds what the lines met so far have shown."""
 
@@ -323,8 +333,6 @@ class Judge:
         return in_range(self, *self.claim.numbers)
 
     def line_met(self, line: Line) -> bool:
-        if line.word == "frame":
-            self.spectral = True
         if line.word not in LINE_RULES:
             return False  # not judged yet
         return LINE_RULES[line.word](self, line.numbers)
@@ -397,7 +405,18 @@ class Judge:
         self.rows[h, i] = v
         return True
 
+    def frame_met(self, numbers: List[int]) -> bool:
+        (root,) = numbers
+        if self.spectral or self.all_sizes() is None or self.claim.name not in SPECTRAL:
+            return False
+        self.spectral = True
+        return root == 0 or (2 <= root < 2**32 and is_squarefree(root))
+
     # Claims: the ranges of their numbers, and where they are closed.
+
+    def never_closed(self, i: int) -> bool:
+        """No rule closes the claim yet."""
+        return False
 
     def first_in_range(self) -> bool:
         return True
@@ -457,10 +476,14 @@ class Judge:
         return sum(k) * k[i] * row[i] % 6 != 0
 
 
+# The claims of class spectral.
+SPECTRAL = ("mult", "krein", "absolute", "ktriple")
+
 # Each line of evidence that is judged: where it is met.
 LINE_RULES: Dict[str, Callable[[Judge, List[int]], bool]] = {
     "k": Judge.k_met,
     "p": Judge.p_met,
+    "frame": Judge.frame_met,
 }
 
 # Each claim that is judged: where its line is met, and where it is closed.
@@ -473,6 +496,7 @@ CLAIM_RULES: Dict[str, Tuple[Callable[..., bool], Callable[..., bool]]] = {
     "intersect": (Judge.intersect_in_range, Judge.intersect_closed),
     "handshake": (Judge.one_to_d, Judge.handshake_closed),
     "induced": (Judge.induced_in_range, Judge.induced_closed),
+    "mult": (Judge.one_to_d, Judge.never_closed),
     "triangles": (Judge.one_to_d, Judge.triangles_closed),
 }
 

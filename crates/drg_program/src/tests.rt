@@ -231,7 +231,7 @@ fn answers_to_derivations(rt: HostRuntime) -> Result<(), Fail> {
             Status::Undecided,
             "undecided wide 4\n",
         ),
-        (MULT, Status::Rejected, "rejected line 3\n"),
+        (MULT, Status::Rejected, "rejected line 6\n"),
         (KREIN, Status::Rejected, "rejected line 3\n"),
         (TRIPLE, Status::Rejected, "rejected line 3\n"),
     ];

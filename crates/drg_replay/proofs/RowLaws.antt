@@ -33,7 +33,7 @@ rows_same a h m p q same rows =
 pub fewer_rows : (a : Entries) (h m n : ℕ) (p : ℕ → ℕ → ℤ) → m ≤ n → AreRows a h n p → AreRows a h m p
 fewer_rows a h m n p less rows = record { start = rows.start; next = λ i j hi hj. rows.next i j (omega arith) hj }
 
-two_cases : (i m : ℕ) → i < suc m → (i ≡ m) ⊎ (i < m)
+pub two_cases : (i m : ℕ) → i < suc m → (i ≡ m) ⊎ (i < m)
 two_cases zero zero h = inl refl
 two_cases zero (suc m) h = inr (omega arith)
 two_cases (suc i) zero h = absurd (omega arith)

@@ -1,36 +1,32 @@
--- What an accepted derivation says of graphs.
-use Rattle.std.proofs.Common.{◌≡◌, ℕ, zero, suc, ◌+◌, ◌-◌, ◌<◌, ◌≤◌, true, List, [], ◌∷◌, length, reverse, Ok, Err, refl, subst, arith, inl, inr, Option}
-use Rattle.std.specs.Prelude.{ℤ, pos, negsuc, unsigned_abs, ◌*ℤ◌, ◌<ℤ◌, ◌≢◌, ◌&&◌, ◌||◌, not, nat_eq, nat_le, nat_lt, int_le, Result, ⊤}
+-- What an accepted derivation, and each met line of it, says of graphs.
+use Rattle.std.proofs.Common.{◌≡◌, ℕ, zero, suc, ◌+◌, ◌-◌, ◌<◌, ◌≤◌, true, List, [], ◌∷◌, length, reverse, Ok, sym, ap, ◌∙◌, subst, arith, inl, inr, Option}
+use Rattle.std.specs.Prelude.{ℤ, pos, negsuc, unsigned_abs, ◌*ℤ◌, ◌<ℤ◌, ◌≢◌, ◌&&◌, ◌||◌, not, nat_eq, nat_le, nat_lt, int_le}
 use Rattle.std.proofs.lemmas.Int.{ints}
 use Rattle.drg_algebra.specs.Sums.{IsMultiple}
 use Rattle.drg_array.specs.Entries.{Entries, IsArray, diameter, b_at, c_at}
 use Rattle.drg_array.specs.declared.claim.Claim.{Claim}
 use Rattle.drg_array.specs.declared.claim.Claim.TheVariants as claim
-use Rattle.drg_array.specs.declared.claim.Class.{Class}
 use Rattle.drg_array.specs.declared.claim.Class.TheVariants.{Counting}
 use Rattle.drg_derivation.specs.declared.line.Line.{Line}
 use Rattle.drg_derivation.specs.declared.line.Line.TheVariants.{K, P}
 use Rattle.drg_array.proofs.EntryLemmas.{c-positive}
-use Rattle.drg_graph.specs.Graph.{NoGraph}
+use Rattle.drg_graph.specs.Graph.{IsDistanceRegular, NoGraph}
 use Rattle.drg_graph.specs.Numbers.{AreSizes}
 use Rattle.drg_graph.specs.DistanceLaws.{FirstLaw, DegreeLaw, OrderLaw, CrossLaw}
-use Rattle.drg_graph.specs.SizeLaws.{SizeLaw}
-use Rattle.drg_graph.specs.RowLaws.{IntersectLaw}
+use Rattle.drg_graph.specs.SizeLaws.{SizeLaw, SizesLaw}
+use Rattle.drg_graph.specs.RowLaws.{IntersectLaw, RowsLaw}
 use Rattle.drg_graph.specs.ParityLaws.{HandshakeLaw, InducedLaw, TrianglesLaw}
-use Rattle.drg_replay.specs.declared.refusal.Refusal.{Refusal}
-use Rattle.drg_replay.specs.declared.refusal.Refusal.TheVariants.{NotMet, Wide}
-use Rattle.drg_replay.specs.declared.answer.Progress.{Progress}
-use Rattle.drg_replay.specs.declared.answer.Progress.TheVariants.{AllMet, Decided}
 use Rattle.drg_replay.specs.Known.{KnownContent}
 use Rattle.drg_replay.specs.Steps.{EachHolds, first_failure}
 use Rattle.drg_replay.specs.Residues.{divides}
 use Rattle.drg_replay.specs.Sizes.{size_at, values_of}
 use Rattle.drg_replay.specs.Rows.{rows_at, entry}
-use Rattle.drg_replay.specs.Lines.{is_index, sizes_of, rows_of, known_of, steps_of, framed_by}
-use Rattle.drg_replay.specs.Claims.{claim_is_met, is_distance, closing_steps, size_closing, intersect_closing, handshake_closing, induced_closing, triangles_closing}
-use Rattle.drg_replay.specs.Answers.{first_decision, outcome, answer_from, answer_after, class_of}
-use Rattle.drg_replay.specs.Soundness.{AllAreMet, GraphLaw}
-use Rattle.drg_replay.proofs.ProgressLaws.{went_on, claim_was_met}
+use Rattle.drg_replay.specs.Indices.{is_index}
+use Rattle.drg_replay.specs.Lines.{known_of, steps_of}
+use Rattle.drg_replay.specs.Claims.{claim_is_met, is_distance, closing_of, closing_steps, size_closing, intersect_closing, handshake_closing, induced_closing, triangles_closing}
+use Rattle.drg_replay.specs.Answers.{progress_of, class_of}
+use Rattle.drg_replay.specs.Soundness.{AllAreMet, GraphLaw, ClassLaw, MetSizesLaw, MetRowsLaw}
+use Rattle.drg_replay.proofs.ProgressLaws.{all_are_met, claim_was_met, array_stays, claim_stays, accepted}
 use Rattle.drg_replay.proofs.ResidueLaws.{residue_multiple}
 use Rattle.drg_replay.proofs.StepLaws.{each_holds, both, either, not_met, at_most, is_less, is_same, are_same, is_whole_less}
 use Rattle.drg_replay.proofs.SizeLaws.{Sized, no_sizes, sized, count_is_sum}
@@ -38,34 +34,30 @@ use Rattle.drg_replay.proofs.RowLaws.{Rowed, balance_is, fewer_rows, row_met, se
 
 -- ---- lines that are all met
 
-pub all_are_met : (a : Entries) (claim : Claim) (lines : List Line) → first_decision a claim lines ≡ AllMet → AllAreMet a lines
-all_are_met a claim [] h = tt
-all_are_met a claim (line ∷ earlier) h =
-    let w = went_on (first_decision a claim earlier) (outcome a earlier line) _ h in
-    (all_are_met a claim earlier w.0, w.1)
-
 -- an index that is in the range
 pub above_zero : (n : ℤ) (limit : ℕ) → is_index 1 n limit ≡ true → suc (unsigned_abs n - 1) ≤ limit
 above_zero (pos zero) limit h = cc
 above_zero (pos (suc n)) limit h = let b = both (int_le (pos 1) (pos (suc n))) (int_le (pos (suc n)) (pos limit)) h in omega (arith, ints)
 above_zero (negsuc n) limit h = cc
 
-sizes_known : (a : Entries) (lines : List Line) → AllAreMet a lines → Sized a (values_of (sizes_of lines))
-sizes_known a [] met = no_sizes a
-sizes_known a (K values ∷ earlier) met = sized a (sizes_of earlier) values (each_holds (steps_of a (known_of a earlier) (K values)) met.1)
-sizes_known a (P h i values ∷ earlier) met = sizes_known a earlier met.0
-sizes_known a (_ ∷ earlier) met = sizes_known a earlier met.0
+pub sizes_known : (a : Entries) (claim : Claim) (lines : List Line) → AllAreMet a claim lines → Sized (known_of a claim lines).array (values_of (known_of a claim lines).counts.sizes)
+sizes_known a claim [] met = no_sizes a
+sizes_known a claim (K values ∷ earlier) met =
+    let k = known_of a claim earlier in sized k.array k.counts.sizes values (each_holds (steps_of k (K values)) met.1)
+sizes_known a claim (P h i values ∷ earlier) met = sizes_known a claim earlier met.0
+sizes_known a claim (_ ∷ earlier) met = sizes_known a claim earlier met.0
 
-rows_known : (a : Entries) (lines : List Line) → AllAreMet a lines → (h : ℕ) → Rowed a h (rows_at (rows_of a lines) h)
-rows_known a [] met h = first_rowed a (diameter a + 1) h
-rows_known a (K values ∷ earlier) met h = rows_known a earlier met.0 h
-rows_known a (P g i values ∷ earlier) met h =
-    let steps = each_holds (steps_of a (known_of a earlier) (P g i values)) met.1 in
-    let old = rows_known a earlier met.0 in
-    set_rowed a (rows_of a earlier) (unsigned_abs g) _ old
-    (row_met a (unsigned_abs g) (rows_at (rows_of a earlier) (unsigned_abs g)) (unsigned_abs i - 1) values (above_zero i (diameter a) steps.1.0) steps.1.1 (old (unsigned_abs g)))
+pub rows_known : (a : Entries) (claim : Claim) (lines : List Line) → AllAreMet a claim lines → (h : ℕ) → Rowed (known_of a claim lines).array h (rows_at (known_of a claim lines).counts.rows h)
+rows_known a claim [] met h = first_rowed a (diameter a + 1) h
+rows_known a claim (K values ∷ earlier) met h = rows_known a claim earlier met.0 h
+rows_known a claim (P g i values ∷ earlier) met h =
+    let k = known_of a claim earlier in
+    let steps = each_holds (steps_of k (P g i values)) met.1 in
+    let old = rows_known a claim earlier met.0 in
+    set_rowed k.array k.counts.rows (unsigned_abs g) _ old
+    (row_met k.array (unsigned_abs g) (rows_at k.counts.rows (unsigned_abs g)) (unsigned_abs i - 1) values (above_zero i (diameter k.array) steps.1.0) steps.1.1 (old (unsigned_abs g)))
     h
-rows_known a (_ ∷ earlier) met h = rows_known a earlier met.0 h
+rows_known a claim (_ ∷ earlier) met h = rows_known a claim earlier met.0 h
 
 -- ---- the claims
 
@@ -144,44 +136,71 @@ module _ (laws : Laws) (a : Entries) (array : IsArray a) where
       (let Q : ℤ → Type 0 = λ z. IsMultiple 6 (z *ℤ size_at sizes i *ℤ entry i rows i i) → ⊥ in
       subst Q (count_is_sum sizes (suc (diameter a)) (omega arith)) (broken 6 _ (omega arith) h.1.1.0))
 
-  -- a closed claim excludes every graph
-  closed_excludes : (c : Claim) (k : KnownContent) → claim_is_met a c ≡ true → EachHolds (closing_steps a c k) → Sized a (values_of k.sizes) → ((h : ℕ) → Rowed a h (rows_at k.rows h)) → NoGraph a
-  closed_excludes claim.First k met h sizes rows = laws.first a array (not_same _ _ h.0)
-  closed_excludes (claim.Degree i) k met h sizes rows = (let range = distance a i met in laws.degree a i array range.0 range.1 (is_whole_less _ _ h.0))
-  closed_excludes (claim.Order i) k met h sizes rows = order_excludes i met h.0
-  closed_excludes (claim.Cross i j) k met h sizes rows = cross_excludes i j met h.0
-  closed_excludes (claim.Size i) k met h sizes rows = (let range = distance a i met in size_excludes k.sizes i range.0 range.1 h sizes)
-  closed_excludes (claim.Intersect h i j) k met steps sizes rows =
-      let outer = both (nat_le h (diameter a) && nat_le i (diameter a)) (nat_le j (diameter a)) met in
-      let inner = both (nat_le h (diameter a)) (nat_le i (diameter a)) outer.0 in
-      intersect_excludes h (rows_at k.rows h) i j (at_most _ _ inner.0) (at_most _ _ inner.1) (at_most _ _ outer.1) steps (rows h)
-  closed_excludes (claim.Handshake i) k met h sizes rows = (let range = distance a i met in handshake_excludes k.sizes i range.0 range.1 h sizes)
-  closed_excludes (claim.Induced i j) k met h sizes rows =
-      let ranges = both (is_distance a i) (is_distance a j) met in
-      let first = distance a i ranges.0 in
-      let second = distance a j ranges.1 in
-      induced_excludes k.sizes (rows_at k.rows i) i j first.1 second.0 second.1 h sizes (rows i)
-  closed_excludes (claim.Triangles i) k met h sizes rows = (let range = distance a i met in triangles_excludes k.sizes (rows_at k.rows i) i range.0 range.1 h sizes (rows i))
-  closed_excludes (claim.Mult i) k met h sizes rows = cc
-  closed_excludes (claim.Krein i j l) k met h sizes rows = cc
-  closed_excludes (claim.Absolute i j) k met h sizes rows = cc
-  closed_excludes (claim.Triple u v w) k met h sizes rows = cc
-  closed_excludes (claim.Ktriple u v w) k met h sizes rows = cc
+-- a closed claim excludes every graph of the array in force
+module _ (laws : Laws) (k : KnownContent) (array : IsArray k.array) where
+  closed_excludes : (c : Claim) → claim_is_met k.array c ≡ true → EachHolds (closing_of k c) → Sized k.array (values_of k.counts.sizes) → ((h : ℕ) → Rowed k.array h (rows_at k.counts.rows h)) → NoGraph k.array
+  closed_excludes claim.First met h sizes rows = laws.first k.array array (not_same _ _ h.0)
+  closed_excludes (claim.Degree i) met h sizes rows = (let range = distance k.array i met in laws.degree k.array i array range.0 range.1 (is_whole_less _ _ h.0))
+  closed_excludes (claim.Order i) met h sizes rows = order_excludes laws k.array array i met h.0
+  closed_excludes (claim.Cross i j) met h sizes rows = cross_excludes laws k.array array i j met h.0
+  closed_excludes (claim.Size i) met h sizes rows = (let range = distance k.array i met in size_excludes laws k.array array k.counts.sizes i range.0 range.1 h sizes)
+  closed_excludes (claim.Intersect h i j) met steps sizes rows =
+      let outer = both (nat_le h (diameter k.array) && nat_le i (diameter k.array)) (nat_le j (diameter k.array)) met in
+      let inner = both (nat_le h (diameter k.array)) (nat_le i (diameter k.array)) outer.0 in
+      intersect_excludes laws k.array array h (rows_at k.counts.rows h) i j (at_most _ _ inner.0) (at_most _ _ inner.1) (at_most _ _ outer.1) steps (rows h)
+  closed_excludes (claim.Handshake i) met h sizes rows = (let range = distance k.array i met in handshake_excludes laws k.array array k.counts.sizes i range.0 range.1 h sizes)
+  closed_excludes (claim.Induced i j) met h sizes rows =
+      let ranges = both (is_distance k.array i) (is_distance k.array j) met in
+      let first = distance k.array i ranges.0 in
+      let second = distance k.array j ranges.1 in
+      induced_excludes laws k.array array k.counts.sizes (rows_at k.counts.rows i) i j first.1 second.0 second.1 h sizes (rows i)
+  closed_excludes (claim.Triangles i) met h sizes rows =
+      (let range = distance k.array i met in triangles_excludes laws k.array array k.counts.sizes (rows_at k.counts.rows i) i range.0 range.1 h sizes (rows i))
+  closed_excludes (claim.Mult i) met h sizes rows = cc
+  closed_excludes (claim.Krein i j l) met h sizes rows = cc
+  closed_excludes (claim.Absolute i j) met h sizes rows = cc
+  closed_excludes (claim.Triple u v w) met h sizes rows = cc
+  closed_excludes (claim.Ktriple u v w) met h sizes rows = cc
 
 -- ---- the answer
 
-pub accepted : (p : Progress) (r : Result ⊤ Refusal) (class found : Class) (n : ℕ) → answer_from p r class n ≡ Ok found → (p ≡ AllMet) × (r ≡ Ok tt)
-accepted AllMet (Ok t) class found n h = (refl, refl)
-accepted AllMet (Err NotMet) class found n h = cc
-accepted AllMet (Err Wide) class found n h = cc
-accepted (Decided NotMet m) r class found n h = cc
-accepted (Decided Wide m) r class found n h = cc
-
-excludes_after : Laws → (a : Entries) (c : Claim) (lines : List Line) → IsArray a → answer_after a c lines ≡ Ok Counting → NoGraph a
-excludes_after laws a c lines array h =
-    let parts = accepted (first_decision a c lines) (first_failure (closing_steps a c (known_of a lines))) (class_of (framed_by lines)) _ (length lines + 4) h in
-    let met = all_are_met a c lines parts.0 in
-    closed_excludes laws a array c (known_of a lines) (claim_was_met a c lines parts.0) (each_holds _ parts.1) (sizes_known a lines met) (rows_known a lines met)
+-- the claim in force lies in the range of its test
+met_in_force : (a : Entries) (c : Claim) (lines : List Line) → claim_is_met a c ≡ true → claim_is_met (known_of a c lines).array (known_of a c lines).claim ≡ true
+met_in_force a c lines h = rw (array_stays a c lines, claim_stays a c lines) h
 
 pub excludes : Laws → GraphLaw
-excludes laws δ array h = excludes_after laws δ.array δ.claim (reverse δ.lines) array h
+excludes laws δ array h =
+    let a = δ.array in
+    let c = δ.claim in
+    let lines = reverse δ.lines in
+    let k = known_of a c lines in
+    let end = accepted (progress_of a c lines) Counting (length lines + 4) h in
+    let (met, known) = all_are_met a c lines end.known end.all_met in
+    let closed = subst (λ k. first_failure (closing_steps k) ≡ Ok tt) known end.closed in
+    let here = array_stays a c lines in
+    subst NoGraph here
+    (closed_excludes laws k (subst IsArray (sym here) array) k.claim (met_in_force a c lines (claim_was_met a c lines end.known end.all_met)) (each_holds _ closed) (sizes_known a c lines met)
+    (rows_known a c lines met))
+
+pub class_is : ClassLaw
+class_is δ class h =
+    let end = accepted (progress_of δ.array δ.claim (reverse δ.lines)) class (length (reverse δ.lines) + 4) h in
+    end.class_is ∙ ap class_of (all_are_met δ.array δ.claim (reverse δ.lines) end.known end.all_met).1
+
+-- ---- met lines
+
+pub met_sizes : SizesLaw → MetSizesLaw
+met_sizes law g a claim lines array regular met x i vertex inside =
+    let k = known_of a claim lines in
+    let here = sym (array_stays a claim lines) in
+    let known = sizes_known a claim lines met in
+    let short = known.short in
+    law g k.array (size_at k.counts.sizes) i x i (subst IsArray here array) (subst (IsDistanceRegular g) here regular) (omega arith) (known.are i inside) vertex (omega arith)
+
+pub met_rows : RowsLaw → MetRowsLaw
+met_rows law g a claim lines array regular met h x y i j distance stands inside =
+    let k = known_of a claim lines in
+    let here = sym (array_stays a claim lines) in
+    let known = rows_known a claim lines met h in
+    law g k.array (entry h (rows_at k.counts.rows h)) h (length (rows_at k.counts.rows h)) x y i j (subst IsArray here array) (subst (IsDistanceRegular g) here regular) known.short known.are distance
+    stands inside

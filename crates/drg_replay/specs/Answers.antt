@@ -1,5 +1,5 @@
 -- The answer of a derivation: that of the first line that decides.
-use Rattle.std.specs.Prelude.{◌≡◌, ℕ, ◌+◌, Bool, ⊤, List, [], ◌∷◌, length, reverse, Result, Ok, Err, if◌then◌else◌}
+use Rattle.std.specs.Prelude.{◌≡◌, ℕ, ◌+◌, ⊤, List, [], ◌∷◌, length, reverse, is_some, Result, Ok, Err, if◌then◌else◌}
 use Rattle.drg_array.specs.Entries.{Entries}
 use Rattle.drg_array.specs.declared.claim.Claim.{Claim}
 use Rattle.drg_array.specs.declared.claim.Class.{Class}
@@ -10,46 +10,53 @@ use Rattle.drg_replay.specs.declared.refusal.Refusal.{Refusal}
 use Rattle.drg_replay.specs.declared.refusal.Refusal.TheVariants as refusal
 use Rattle.drg_replay.specs.declared.refusal.Fault.{Fault}
 use Rattle.drg_replay.specs.declared.refusal.Fault.TheVariants as fault
-use Rattle.drg_replay.specs.declared.answer.Progress.{Progress}
-use Rattle.drg_replay.specs.declared.answer.Progress.TheVariants.{AllMet, Decided}
+use Rattle.drg_replay.specs.declared.progress.Progress.{Progress}
+use Rattle.drg_replay.specs.declared.progress.Progress.TheVariants.{AllMet, Decided}
 use Rattle.drg_replay.specs.declared.answer.ReplayFault.{ReplayFault}
 use Rattle.drg_replay.specs.declared.answer.ReplayFault.TheVariants as answer
 use Rattle.drg_replay.specs.Known.{KnownContent}
 use Rattle.drg_replay.specs.Steps.{Step, first_failure}
-use Rattle.drg_replay.specs.Lines.{known_of, steps_of, framed_by}
+use Rattle.drg_replay.specs.Lines.{known_at_start, known_after, steps_of}
 use Rattle.drg_replay.specs.Claims.{claim_is_met, closing_steps}
 
--- the condition of a line on the lines before it, and what it comes to
-abbrev pub outcome : Entries → List Line → Line → Result ⊤ Refusal
-outcome a earlier line = first_failure (steps_of a (known_of a earlier) line)
+-- the condition of a line on what is known before it, and what it comes to
+abbrev pub outcome : KnownContent → Line → Result ⊤ Refusal
+outcome k line = first_failure (steps_of k line)
 
--- a line comes to this, after lines that came to that
-abbrev pub goes_on : Progress → Result ⊤ Refusal → ℕ → Progress
-goes_on AllMet (Ok t) n = AllMet
-goes_on AllMet (Err refusal) n = Decided refusal n
-goes_on (Decided refusal m) r n = Decided refusal m
+-- lines that are all met so far, after one that comes to this and has this number
+abbrev pub decided_by : Result ⊤ Refusal → KnownContent → ℕ → Progress
+decided_by (Ok t) after n = AllMet after
+decided_by (Err refusal) after n = Decided refusal n
 
--- the first of these lines that decides, the newest of them first; the claim is line 3, and the lines after it begin at 4
-abbrev pub first_decision : Entries → Claim → List Line → Progress
-first_decision a claim [] = if claim_is_met a claim then AllMet else Decided refusal.NotMet 3
-first_decision a claim (line ∷ earlier) = goes_on (first_decision a claim earlier) (outcome a earlier line) (length earlier + 4)
+-- one more line, which has this number
+abbrev pub goes_on : Progress → Line → ℕ → Progress
+goes_on (AllMet k) line n = decided_by (outcome k line) (known_after line k) n
+goes_on (Decided refusal m) line n = Decided refusal m
 
--- the class of an accepted derivation
-abbrev pub class_of : Bool → Class
-class_of framed = if framed then Spectral else Counting
+-- what these lines come to, the newest of them first; the claim is line 3, and the lines after it begin at 4
+abbrev pub progress_of : Entries → Claim → List Line → Progress
+progress_of a claim [] = if claim_is_met a claim then AllMet (known_at_start a claim) else Decided refusal.NotMet 3
+progress_of a claim (line ∷ earlier) = goes_on (progress_of a claim earlier) line (length earlier + 4)
 
--- the answer at the end line, which has this number, by the lines before it and by what the end itself comes to
-abbrev pub answer_from : Progress → Result ⊤ Refusal → Class → ℕ → Result Class ReplayFault
-answer_from AllMet (Ok t) class n = Ok class
-answer_from AllMet (Err refusal.NotMet) class n = Err (answer.Open n)
-answer_from AllMet (Err refusal.Wide) class n = Err (answer.Wide n)
-answer_from (Decided refusal.NotMet m) r class n = Err (answer.NotMet m)
-answer_from (Decided refusal.Wide m) r class n = Err (answer.Wide m)
+-- the class of an accepted derivation: spectral where a `frame` line stands
+abbrev pub class_of : KnownContent → Class
+class_of k = if is_some k.frame then Spectral else Counting
+
+-- the answer at the end line, which has this number, after lines that are all met, by what the end itself comes to
+abbrev pub closed_by : Result ⊤ Refusal → Class → ℕ → Result Class ReplayFault
+closed_by (Ok t) class n = Ok class
+closed_by (Err refusal.NotMet) class n = Err (answer.Open n)
+closed_by (Err refusal.Wide) class n = Err (answer.Wide n)
+
+-- the answer at the end line, which has this number, after lines that come to that
+abbrev pub answer_at : Progress → ℕ → Result Class ReplayFault
+answer_at (AllMet k) n = closed_by (first_failure (closing_steps k)) (class_of k) n
+answer_at (Decided refusal.NotMet m) n = Err (answer.NotMet m)
+answer_at (Decided refusal.Wide m) n = Err (answer.Wide m)
 
 -- the answer where the end comes after these lines, the newest of them first
 abbrev pub answer_after : Entries → Claim → List Line → Result Class ReplayFault
-answer_after a claim lines =
-    answer_from (first_decision a claim lines) (first_failure (closing_steps a claim (known_of a lines))) (class_of (framed_by lines)) (length lines + 4)
+answer_after a claim lines = answer_at (progress_of a claim lines) (length lines + 4)
 
 -- the answer of a derivation; it is never `Memory`
 abbrev pub answer_of : Content → Result Class ReplayFault

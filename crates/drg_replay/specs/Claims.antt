@@ -14,7 +14,7 @@ use Rattle.drg_replay.specs.Rows.{rows_at, row_stands, entry, balance}
 abbrev pub is_distance : Entries → ℕ → Bool
 is_distance a i = nat_le 1 i && nat_le i (diameter a)
 
--- the indices lie in the range of the test; no rule is built yet for the claims below triangles, so none of them is met
+-- the indices lie in the range of the test; no rule is built yet for the claims below mult, so none of them is met
 abbrev pub claim_is_met : Entries → Claim → Bool
 claim_is_met a First = true
 claim_is_met a (Degree i) = is_distance a i
@@ -25,7 +25,7 @@ claim_is_met a (Intersect h i j) = nat_le h (diameter a) && nat_le i (diameter a
 claim_is_met a (Handshake i) = is_distance a i
 claim_is_met a (Induced i j) = is_distance a i && is_distance a j
 claim_is_met a (Triangles i) = is_distance a i
-claim_is_met a (Mult i) = false
+claim_is_met a (Mult i) = is_distance a i
 claim_is_met a (Krein i j h) = false
 claim_is_met a (Absolute i j) = false
 claim_is_met a (Triple u v w) = false
@@ -73,19 +73,23 @@ triangles_closing a sizes rows i =
     ∷ Holds (not (divides 6 (vertex_count sizes *ℤ size_at sizes i *ℤ entry i rows i i)))
     ∷ []
 
--- what the end asks for
-abbrev pub closing_steps : Entries → Claim → KnownContent → List Step
-closing_steps a First k = Holds (not (nat_eq (c_at a 1) 1)) ∷ []
-closing_steps a (Degree i) k = Holds (int_lt (a_at a i) (pos 0)) ∷ []
-closing_steps a (Order i) k = Holds (nat_lt (b_at a i) (b_at a (suc i)) || nat_lt (c_at a (suc i)) (c_at a i)) ∷ []
-closing_steps a (Cross i j) k = Holds (nat_lt (b_at a j) (c_at a i)) ∷ []
-closing_steps a (Size i) k = size_closing a k.sizes i
-closing_steps a (Intersect h i j) k = intersect_closing a h (rows_at k.rows h) i j
-closing_steps a (Handshake i) k = handshake_closing a k.sizes i
-closing_steps a (Induced i j) k = induced_closing a k.sizes (rows_at k.rows i) i j
-closing_steps a (Triangles i) k = triangles_closing a k.sizes (rows_at k.rows i) i
-closing_steps a (Mult i) k = Holds false ∷ []
-closing_steps a (Krein i j h) k = Holds false ∷ []
-closing_steps a (Absolute i j) k = Holds false ∷ []
-closing_steps a (Triple u v w) k = Holds false ∷ []
-closing_steps a (Ktriple u v w) k = Holds false ∷ []
+-- what the end asks for this claim; no rule is built yet for the claims below triangles, so none of them is closed
+abbrev pub closing_of : KnownContent → Claim → List Step
+closing_of k First = Holds (not (nat_eq (c_at k.array 1) 1)) ∷ []
+closing_of k (Degree i) = Holds (int_lt (a_at k.array i) (pos 0)) ∷ []
+closing_of k (Order i) = Holds (nat_lt (b_at k.array i) (b_at k.array (suc i)) || nat_lt (c_at k.array (suc i)) (c_at k.array i)) ∷ []
+closing_of k (Cross i j) = Holds (nat_lt (b_at k.array j) (c_at k.array i)) ∷ []
+closing_of k (Size i) = size_closing k.array k.counts.sizes i
+closing_of k (Intersect h i j) = intersect_closing k.array h (rows_at k.counts.rows h) i j
+closing_of k (Handshake i) = handshake_closing k.array k.counts.sizes i
+closing_of k (Induced i j) = induced_closing k.array k.counts.sizes (rows_at k.counts.rows i) i j
+closing_of k (Triangles i) = triangles_closing k.array k.counts.sizes (rows_at k.counts.rows i) i
+closing_of k (Mult i) = Holds false ∷ []
+closing_of k (Krein i j h) = Holds false ∷ []
+closing_of k (Absolute i j) = Holds false ∷ []
+closing_of k (Triple u v w) = Holds false ∷ []
+closing_of k (Ktriple u v w) = Holds false ∷ []
+
+-- what the end asks for the claim in force
+abbrev pub closing_steps : KnownContent → List Step
+closing_steps k = closing_of k k.claim

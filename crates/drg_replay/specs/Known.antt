@@ -1,10 +1,24 @@
--- What look-ups in the lines so far give.
-use Rattle.std.specs.Prelude.{ℤ, List, Option, Bool}
+-- What the lines so far have made known, in groups.
+use Rattle.std.specs.Prelude.{ℤ, List, Option}
+use Rattle.drg_array.specs.Entries.{Entries}
+use Rattle.drg_array.specs.declared.claim.Claim.{Claim}
 
-pub record KnownContent : Type 0 where
+-- what the lines `k` and `p` state
+pub record CountContent : Type 0 where
   -- the numbers of the `k` line, where it stands
   pub sizes : Option (List ℤ)
   -- for each upper index from 0 on, its rows from row 1 on
   pub rows : List (List (List ℤ))
-  -- a `frame` line stands
-  pub framed : Bool
+
+-- what the `frame` line and those that need it state
+pub record FrameContent : Type 0 where
+  -- the number whose square root the field numbers are made with, 0 for none
+  pub root : ℤ
+
+pub record KnownContent : Type 0 where
+  -- the array and the claim in force
+  pub array : Entries
+  pub claim : Claim
+  pub counts : CountContent
+  -- there from the `frame` line on
+  pub frame : Option FrameContent

@@ -1,11 +1,14 @@
 pub mod Answers
 pub mod Claims
+pub mod Frames
+pub mod HasJudged
+pub mod Indices
 pub mod Known
 pub mod Lines
 pub mod Residues
+pub mod Roots
 pub mod Rows
 pub mod Sizes
 pub mod Soundness
-pub mod StandsFor
 pub mod Steps
 pub mod Work

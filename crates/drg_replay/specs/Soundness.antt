@@ -1,17 +1,45 @@
--- What an accepted derivation says of graphs.
-use Rattle.std.specs.Prelude.{◌≡◌, ⊤, List, [], ◌∷◌, Ok}
-use Rattle.drg_array.specs.Entries.{Entries, IsArray}
+-- What an accepted derivation, and each met line of it, says of graphs.
+use Rattle.std.specs.Prelude.{◌≡◌, ⊤, ℕ, ◌≤◌, ◌<◌, pos, length, reverse, IsTrue, List, [], ◌∷◌, Ok}
+use Rattle.drg_array.specs.Entries.{Entries, IsArray, diameter}
+use Rattle.drg_array.specs.declared.claim.Claim.{Claim}
+use Rattle.drg_array.specs.declared.claim.Class.{Class}
 use Rattle.drg_array.specs.declared.claim.Class.TheVariants.{Counting}
 use Rattle.drg_derivation.specs.Content.{Content}
 use Rattle.drg_derivation.specs.declared.line.Line.{Line}
-use Rattle.drg_graph.specs.Graph.{NoGraph}
-use Rattle.drg_replay.specs.Answers.{outcome, answer_of}
+use Rattle.drg_graph.specs.Graph.{Graph, is_vertex, sphere, pairs_at, HasDistance, IsDistanceRegular, NoGraph}
+use Rattle.drg_replay.specs.Known.{KnownContent}
+use Rattle.drg_replay.specs.Sizes.{size_at, values_of}
+use Rattle.drg_replay.specs.Rows.{rows_at, entry}
+use Rattle.drg_replay.specs.Lines.{known_of}
+use Rattle.drg_replay.specs.Answers.{outcome, class_of, answer_of}
 
 -- each line is met after those before it
-abbrev pub AllAreMet : Entries → List Line → Type 0
-AllAreMet a [] = ⊤
-AllAreMet a (line ∷ earlier) = AllAreMet a earlier × (outcome a earlier line ≡ Ok tt)
+abbrev pub AllAreMet : Entries → Claim → List Line → Type 0
+AllAreMet a claim [] = ⊤
+AllAreMet a claim (line ∷ earlier) = AllAreMet a claim earlier × (outcome (known_of a claim earlier) line ≡ Ok tt)
+
+-- the class of an accepted derivation is spectral exactly where a `frame` line stands
+abbrev pub ClassLaw : Type 0
+ClassLaw = (δ : Content) (class : Class) → answer_of δ ≡ Ok class → class ≡ class_of (known_of δ.array δ.claim (reverse δ.lines))
 
 -- a derivation that is accepted by counting rules alone excludes every graph
 abbrev pub GraphLaw : Type 0
 GraphLaw = (δ : Content) → IsArray δ.array → answer_of δ ≡ Ok Counting → NoGraph δ.array
+
+-- the stated sizes are the counts at each vertex of the graph
+abbrev pub SizesAreCounts : Graph → KnownContent → Type 0
+SizesAreCounts g k = (x i : ℕ) → IsTrue (is_vertex g x) → i < length (values_of k.counts.sizes) → size_at k.counts.sizes i ≡ pos (sphere g i x)
+
+-- the stated rows of each h are the counts for each two vertices of the graph at distance h
+abbrev pub RowsAreCounts : Graph → KnownContent → Type 0
+RowsAreCounts g k =
+    (h x y i j : ℕ) → HasDistance g h x y → i ≤ length (rows_at k.counts.rows h) → j ≤ diameter k.array
+    → entry h (rows_at k.counts.rows h) i j ≡ pos (pairs_at g i j x y)
+
+-- a met `k` line states the counts in every graph of the array
+abbrev pub MetSizesLaw : Type 0
+MetSizesLaw = (g : Graph) (a : Entries) (claim : Claim) (lines : List Line) → IsArray a → IsDistanceRegular g a → AllAreMet a claim lines → SizesAreCounts g (known_of a claim lines)
+
+-- and so do met `p` lines
+abbrev pub MetRowsLaw : Type 0
+MetRowsLaw = (g : Graph) (a : Entries) (claim : Claim) (lines : List Line) → IsArray a → IsDistanceRegular g a → AllAreMet a claim lines → RowsAreCounts g (known_of a claim lines)

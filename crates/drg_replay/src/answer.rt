@@ -1,14 +1,4 @@
-//! What the lines of a derivation come to.
-use crate::refusal::Refusal;
-
-/// What the lines so far come to.
-#[derive(Clone, Copy, Debug, PartialEq, Eq)]
-pub enum Progress {
-    /// Each of them is met.
-    AllMet,
-    /// The first line that decides, by its number.
-    Decided { refusal: Refusal, line: u64 },
-}
+//! The answers that aren't Ok.
 
 /// Why a derivation isn't accepted. Lines are numbered from 1, the line `drg 1`.
 #[derive(Clone, Copy, Debug, PartialEq, Eq)]

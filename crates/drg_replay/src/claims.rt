@@ -1,5 +1,5 @@
 //! What a claim asks: at its line and at the end.
-ghost use Rattle.std.specs.Prelude.{◌≡◌, ◌≤◌, true};
+ghost use Rattle.std.specs.Prelude.{◌≡◌, ◌≤◌};
 ghost use Rattle.drg_array.specs.Entries.{diameter};
 ghost use Rattle.drg_replay.specs.Steps.{first_failure};
 ghost use Rattle.drg_replay.specs.Claims.{claim_is_met as the_claim_is_met, is_distance as the_is_distance, size_closing, intersect_closing, closing_steps};
@@ -37,8 +37,8 @@ pub fn claim_is_met(array: &Array, claim: Claim) -> bool
         Claim::Handshake { i } => is_distance(array, i),
         Claim::Induced { i, j } => is_distance(array, i) && is_distance(array, j),
         Claim::Triangles { i } => is_distance(array, i),
-        Claim::Mult { .. }
-        | Claim::Krein { .. }
+        Claim::Mult { i } => is_distance(array, i),
+        Claim::Krein { .. }
         | Claim::Absolute { .. }
         | Claim::Triple { .. }
         | Claim::Ktriple { .. } => false,
@@ -80,12 +80,13 @@ fn check_intersect(
 }
 
 /// Whether the claim is closed by what is known at the end.
-pub fn check_closing(array: &Array, claim: Claim, known: &Known) -> Result<(), Refusal>
-    requires { the_claim_is_met array.now claim ≡ true }
-    ensures { result ≡ first_failure (closing_steps array.now claim known.now) }
+pub fn check_closing(known: &Known) -> Result<(), Refusal>
+    ensures { result ≡ first_failure (closing_steps known.now) }
 {
+    let array = known.array();
+    let counts = known.counts();
     let _ = array.d();
-    match claim {
+    match known.claim() {
         Claim::First => met_where(array.c(1) != 1),
         Claim::Degree { i } => met_where(array.a(usize::from(i)) < 0),
         Claim::Order { i } => {
@@ -93,19 +94,19 @@ pub fn check_closing(array: &Array, claim: Claim, known: &Known) -> Result<(), R
             met_where(array.b(i) < array.b(i + 1) || array.c(i + 1) < array.c(i))
         }
         Claim::Cross { i, j } => { met_where(array.b(usize::from(j)) < array.c(usize::from(i))) }
-        Claim::Size { i } => check_size(array, known.sizes(), usize::from(i)),
+        Claim::Size { i } => check_size(array, counts.sizes(), usize::from(i)),
         Claim::Intersect { h, i, j } => {
             let h = usize::from(h);
-            check_intersect(array, h, known.rows_at(h), usize::from(i), usize::from(j))
+            check_intersect(array, h, counts.rows_at(h), usize::from(i), usize::from(j))
         }
-        Claim::Handshake { i } => check_handshake(array, known.sizes(), usize::from(i)),
+        Claim::Handshake { i } => check_handshake(array, counts.sizes(), usize::from(i)),
         Claim::Induced { i, j } => {
             let i = usize::from(i);
-            check_induced(array, known.sizes(), known.rows_at(i), i, usize::from(j))
+            check_induced(array, counts.sizes(), counts.rows_at(i), i, usize::from(j))
         }
         Claim::Triangles { i } => {
             let i = usize::from(i);
-            check_triangles(array, known.sizes(), known.rows_at(i), i)
+            check_triangles(array, counts.sizes(), counts.rows_at(i), i)
         }
         Claim::Mult { .. }
         | Claim::Krein { .. }

@@ -1,57 +1,43 @@
 //! What the lines so far have made known.
-ghost use Rattle.std.specs.Prelude.{◌≡◌, ◌+◌, ◌++◌, ◌∷◌, [], unsigned_abs, Some, None, if◌then◌else◌, IfOk, MatchResult, slice_set, replicate, false};
+ghost use Rattle.std.specs.Prelude.{◌≡◌, ◌+◌, length, is_some, IfOk, true};
 ghost use Rattle.drg_array.specs.Entries.{diameter};
 ghost use Rattle.drg_replay.specs.Answers.{Takes};
-ghost use Rattle.drg_replay.specs.Lines.{is_index, known_after, steps_of};
-ghost use Rattle.drg_replay.specs.Rows.{rows_at as the_rows_at};
-ghost use Rattle.drg_derivation.specs.declared.line.Line.TheVariants.{K, P};
+ghost use Rattle.drg_replay.specs.Claims.{claim_is_met as the_claim_is_met};
+ghost use Rattle.drg_replay.specs.Lines.{known_after, known_at_start, steps_of};
+ghost use Rattle.drg_derivation.specs.declared.line.Line.TheVariants.{K, P, Frame as FrameLine};
 
+use crate::counts::Counts;
+use crate::frame::{Frame, check_frame};
+use crate::index::index;
 use crate::refusal::{Fault, Refusal};
 use crate::rows::check_row;
 use crate::sizes::check_sizes;
-use drg_array::Array;
+use drg_array::{Array, Claim};
 use drg_derivation::{Line, Numbers};
 use std::alloc::{AllocError, Global};
 use std::marker::Model;
 
-/// The rows of intersection numbers with one upper index, from row 1 on.
-#[derive(Debug, Drop)]
-pub struct Rows {
-    rows: Vec<Numbers>,
-}
-
-impl Model for Rows {
-    ghost use Rattle.std.specs.Prelude.{List, ℤ};
-
-    ghost Value = { List (List ℤ) };
-
-    ghost view = { λ r. r.rows.items };
-}
-
-/// All that is known, indexed.
+/// All that is known, for a claim whose line is met.
 #[derive(Debug, Drop)]
 pub struct Known {
-    sizes: Option<Numbers>,
-    rows: Vec<Rows>,
-    framed: bool,
+    alloc: Global,
+    array: Array,
+    claim: Claim,
+    counts: Counts,
+    frame: Option<Frame>,
 }
 
 impl Model for Known {
+    ghost use Rattle.std.specs.Prelude.{◌≡◌, ◌+◌, true, length};
+    ghost use Rattle.drg_array.specs.Entries.{diameter};
     ghost use Rattle.drg_replay.specs.Known.{KnownContent};
+    ghost use Rattle.drg_replay.specs.Claims.{claim_is_met};
 
     ghost Value = { KnownContent };
 
-    ghost view = { λ k. record { sizes = k.sizes; rows = k.rows.items; framed = k.framed } };
-}
+    ghost view = { λ k. record { array = k.array; claim = k.claim; counts = k.counts; frame = k.frame } };
 
-/// The number as an index, from the least one to the limit.
-fn index(least: usize, n: i128, limit: usize) -> Option<usize>
-    ensures { result ≡ (if is_index least n limit then Some (unsigned_abs n) else None) }
-{
-    if n < least as i128 || n > limit as i128 {
-        return None;
-    }
-    Some(n as usize)
+    ghost invariant = { λ k. (claim_is_met k.array k.claim ≡ true) × (length k.counts.rows ≡ diameter k.array + 1) };
 }
 
 fn copied(alloc: Global, numbers: &Numbers) -> Result<Numbers, AllocError>
@@ -60,124 +46,99 @@ fn copied(alloc: Global, numbers: &Numbers) -> Result<Numbers, AllocError>
     Ok(Numbers::new(numbers.as_slice().to_vec(alloc)?))
 }
 
-/// No rows, for each upper index from 0 to d.
-fn no_rows(alloc: Global, array: &Array) -> Result<Vec<Rows>, AllocError>
-    ensures { IfOk result (λ rows. rows.items ≡ replicate (diameter array.now + 1) []) }
-{
-    let mut rows = Vec::new(alloc);
-    'indices: for _h in 0..array.d() + 1 {
-        rows.push(Rows {
-            rows: Vec::new(alloc),
-        })?;
-    }
-    Ok(rows)
-}
-
 impl Known {
     /// Before the first line.
-    pub fn new(alloc: Global, array: &Array) -> Result<Known, AllocError>
-        ensures { IfOk result (λ known. known ≡ record { sizes = None; rows = replicate (diameter array.now + 1) []; framed = false }) }
+    pub fn new(alloc: Global, array: Array, claim: Claim) -> Result<Known, AllocError>
+        requires { the_claim_is_met array claim ≡ true }
+        ensures { IfOk result (λ known. known ≡ known_at_start array claim) }
     {
+        let counts = Counts::new(alloc, &array)?;
         Ok(Known {
-            sizes: None,
-            rows: no_rows(alloc, array)?,
-            framed: false,
+            alloc,
+            array,
+            claim,
+            counts,
+            frame: None,
         })
     }
 
-    /// The numbers of the `k` line.
-    pub fn sizes(&self) -> &Option<Numbers>
-        ensures { result.now ≡ self.now.sizes }
+    /// The array in force.
+    pub fn array(&self) -> &Array
+        ensures { result.now ≡ self.now.array }
     {
-        &self.sizes
+        &self.array
     }
 
-    /// The rows of an upper index, from row 1 on.
-    pub fn rows_at(&self, h: usize) -> &[Numbers]
-        ensures { result.now ≡ the_rows_at self.now.rows h }
+    /// The claim in force, whose line is met.
+    pub fn claim(&self) -> Claim
+        ensures value { result ≡ self.now.claim }
+        ensures met { the_claim_is_met self.now.array self.now.claim ≡ true }
     {
-        match self.rows.get(h) {
-            Some(rows) => &rows.rows,
-            None => &[],
-        }
+        self.claim
+    }
+
+    /// What the lines `k` and `p` state. There are rows for each upper index from 0 to d.
+    pub fn counts(&self) -> &Counts
+        ensures value { result.now ≡ self.now.counts }
+        ensures rows { length self.now.counts.rows ≡ diameter self.now.array + 1 }
+    {
+        &self.counts
     }
 
     /// Whether a `frame` line stands.
     pub fn framed(&self) -> bool
-        ensures { result ≡ self.now.framed }
+        ensures { result ≡ is_some self.now.frame }
     {
-        self.framed
-    }
-
-    /// Appends a row of an upper index.
-    fn keep_row(&mut self, h: usize, row: Numbers) -> Result<(), AllocError>
-        ensures { MatchResult result
-            (λ _. self.new ≡ record { sizes = self.old.sizes; rows = slice_set self.old.rows h (the_rows_at self.old.rows h ++ row ∷ []); framed = self.old.framed })
-            (λ _. self.new ≡ self.old) }
-    {
-        if h < self.rows.len() {
-            self.rows[h].rows.push(row)?;
-        }
-        Ok(())
+        self.frame.is_some()
     }
 
     /// Takes a `k` line.
-    fn take_sizes(&mut self, alloc: Global, array: &Array, values: &Numbers) -> Result<(), Fault>
-        ensures { Takes result (steps_of array.now self.old (K values.now)) self.old (known_after (K values.now) self.old) self.new }
+    fn take_sizes(&mut self, values: &Numbers) -> Result<(), Fault>
+        ensures { Takes result (steps_of self.old (K values.now)) self.old (known_after (K values.now) self.old) self.new }
     {
-        if let Err(refusal) = check_sizes(array, &self.sizes, values.as_slice()) {
-            return Err(Fault::Refused(refusal));
-        }
-        match copied(alloc, values) {
-            Ok(sizes) => {
-                self.sizes = Some(sizes);
-                Ok(())
-            }
-            Err(_) => Err(Fault::Memory),
-        }
+        check_sizes(&self.array, self.counts.sizes(), values.as_slice())?;
+        let sizes = copied(self.alloc, values)?;
+        self.counts.keep_sizes(sizes);
+        Ok(())
     }
 
     /// Takes a `p` line.
-    fn take_row(
-        &mut self,
-        alloc: Global,
-        array: &Array,
-        h: i128,
-        i: i128,
-        values: &Numbers,
-    ) -> Result<(), Fault>
-        ensures { Takes result (steps_of array.now self.old (P h i values.now)) self.old (known_after (P h i values.now) self.old) self.new }
+    fn take_row(&mut self, h: i128, i: i128, values: &Numbers) -> Result<(), Fault>
+        ensures { Takes result (steps_of self.old (P h i values.now)) self.old (known_after (P h i values.now) self.old) self.new }
     {
-        let d = array.d();
-        let Some(h) = index(0, h, d) else {
-            return Err(Fault::Refused(Refusal::NotMet));
-        };
-        let Some(i) = index(1, i, d) else {
-            return Err(Fault::Refused(Refusal::NotMet));
-        };
-        if let Err(refusal) = check_row(array, h, self.rows_at(h), i - 1, values.as_slice()) {
-            return Err(Fault::Refused(refusal));
-        }
-        match copied(alloc, values) {
-            Ok(row) => {
-                if self.keep_row(h, row).is_err() {
-                    return Err(Fault::Memory);
-                }
-                Ok(())
-            }
-            Err(_) => Err(Fault::Memory),
-        }
+        let d = self.array.d();
+        let h = index(0, h, d)?;
+        let i = index(1, i, d)?;
+        check_row(
+            &self.array,
+            h,
+            self.counts.rows_at(h),
+            i - 1,
+            values.as_slice(),
+        )?;
+        let row = copied(self.alloc, values)?;
+        self.counts.keep_row(h, row)?;
+        Ok(())
     }
 
-    /// Takes a line. A refusal changes nothing.
-    pub fn step(&mut self, alloc: Global, array: &Array, line: &Line) -> Result<(), Fault>
-        ensures { Takes result (steps_of array.now self.old line.now) self.old (known_after line.now self.old) self.new }
+    /// Takes a `frame` line.
+    fn take_frame(&mut self, root: i128) -> Result<(), Fault>
+        ensures { Takes result (steps_of self.old (FrameLine root)) self.old (known_after (FrameLine root) self.old) self.new }
+    {
+        check_frame(self, root)?;
+        self.frame = Some(Frame::new(root));
+        Ok(())
+    }
+
+    /// Takes a line. A refusal changes nothing, nor does want of memory.
+    pub fn step(&mut self, line: &Line) -> Result<(), Fault>
+        ensures { Takes result (steps_of self.old line.now) self.old (known_after line.now self.old) self.new }
     {
         match line {
-            Line::K { values } => self.take_sizes(alloc, array, values),
-            Line::P { h, i, values } => self.take_row(alloc, array, *h, *i, values),
-            Line::Frame { .. }
-            | Line::Theta { .. }
+            Line::K { values } => self.take_sizes(values),
+            Line::P { h, i, values } => self.take_row(*h, *i, values),
+            Line::Frame { root } => self.take_frame(*root),
+            Line::Theta { .. }
             | Line::Prow { .. }
             | Line::Qrow { .. }
             | Line::Krein { .. }

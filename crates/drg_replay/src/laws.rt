@@ -1,10 +1,16 @@
-//! The laws of the answer.
-ghost use Rattle.drg_replay.specs.Soundness.{GraphLaw};
+//! The laws of the answer and of met lines.
+ghost use Rattle.drg_replay.specs.Roots.{RootLaw};
+ghost use Rattle.drg_replay.specs.Soundness.{ClassLaw, GraphLaw, MetRowsLaw, MetSizesLaw};
 
 use drg_graph::{
     cross_law, degree_law, first_law, handshake_law, induced_law, intersect_law, order_law,
-    size_law, triangles_law,
+    rows_law, size_law, sizes_law, triangles_law,
 };
+
+/// The class of an accepted derivation is spectral exactly where a `frame` line stands.
+pub fn class_law()
+    ensures { ClassLaw }
+{}
 
 /// A derivation that is accepted by counting rules alone excludes every graph.
 pub fn graph_law()
@@ -20,3 +26,25 @@ pub fn graph_law()
     induced_law();
     triangles_law();
 }
+
+/// The numbers of a met `k` line are the counts of vertices at each distance, at each vertex of a
+/// graph that has the array.
+pub fn met_sizes_law()
+    ensures { MetSizesLaw }
+{
+    sizes_law();
+}
+
+/// The numbers of met `p` lines are the counts of vertices at two distances from two vertices, for
+/// each two vertices at distance h of a graph that has the array.
+pub fn met_rows_law()
+    ensures { MetRowsLaw }
+{
+    rows_law();
+}
+
+/// The root of a met `frame` line is 0, or squarefree above 1 and below 2^32, and each such number is
+/// taken.
+pub fn root_law()
+    ensures { RootLaw }
+{}

@@ -3,26 +3,33 @@
 //! The answer of a derivation is a definition on the list of its lines (specs/Answers.antt): a line is
 //! met, or not, by a list of conditions on what the lines before it make known (specs/Lines.antt), and
 //! the first line that decides gives the answer. `replay` gives exactly that answer. A derivation that
-//! is accepted with the class Counting excludes every graph (specs/Soundness.antt).
+//! is accepted with the class Counting excludes every graph, and the numbers of met lines are counts in
+//! every graph of the array (specs/Soundness.antt).
 //!
 //! The rules that are built are those of the claims first, degree, order, cross, size, intersect,
-//! handshake, induced and triangles and of the lines `k` and `p`. No other claim or line is met yet.
+//! handshake, induced and triangles and of the lines `k`, `p` and `frame`. The claim mult is met, and
+//! is never closed yet. No other claim or line is met yet.
 #![tactic(auto)]
 
 mod answer;
 mod claims;
+mod counts;
+mod frame;
+mod index;
+mod judge;
 mod known;
 mod laws;
 mod parity;
+mod progress;
 mod refusal;
-mod replayer;
+mod root;
 mod rows;
 mod sizes;
 mod work;
 
 pub use answer::ReplayFault;
-pub use laws::graph_law;
-pub use replayer::replay;
+pub use judge::replay;
+pub use laws::{graph_law, met_rows_law, met_sizes_law, root_law};
 
 #[cfg(test)]
 mod tests;

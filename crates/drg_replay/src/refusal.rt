@@ -1,6 +1,9 @@
 //! Why a line isn't taken.
 ghost use Rattle.std.specs.Prelude.{◌≡◌, ◌∷◌, []};
 ghost use Rattle.drg_replay.specs.Steps.{Holds, first_failure};
+ghost use Rattle.drg_replay.specs.declared.refusal.Fault.TheVariants.{Memory, Refused};
+
+use std::alloc::AllocError;
 
 /// Why a line isn't met.
 #[derive(Clone, Copy, Debug, PartialEq, Eq)]
@@ -26,5 +29,21 @@ pub fn met_where(condition: bool) -> Result<(), Refusal>
         Ok(())
     } else {
         Err(Refusal::NotMet)
+    }
+}
+
+impl From<Refusal> for Fault {
+    ghost from_gives = { λ refusal fault. fault ≡ Refused refusal };
+
+    fn from(refusal: Refusal) -> Fault {
+        Fault::Refused(refusal)
+    }
+}
+
+impl From<AllocError> for Fault {
+    ghost from_gives = { λ _ fault. fault ≡ Memory };
+
+    fn from(_error: AllocError) -> Fault {
+        Fault::Memory
     }
 }

@@ -1,7 +1,7 @@
-use crate::ReplayFault;
-use crate::replayer::replay_lines;
+use crate::judge::replay_lines;
+use crate::{ReplayFault, replay};
 use drg_array::{Array, Claim, Class};
-use drg_derivation::{Line, Numbers};
+use drg_derivation::{Derivation, Line, Numbers};
 use std::alloc::Global;
 use std::test::Fail;
 
@@ -50,7 +50,7 @@ fn answer(
 #[test]
 fn claims_on_the_entries(rt: HostRuntime) -> Result<(), Fail> {
     let alloc = rt.alloc();
-    let cases: [(&str, Claim, Result<Class, ReplayFault>); 16] = [
+    let cases: [(&str, Claim, Result<Class, ReplayFault>); 18] = [
         ("{3,2;2,1}", Claim::First, ACCEPTED),
         ("{3,3;1,1}", Claim::First, open(4)),
         ("{3,3;1,1}", Claim::Degree { i: 1 }, ACCEPTED),
@@ -65,7 +65,13 @@ fn claims_on_the_entries(rt: HostRuntime) -> Result<(), Fail> {
         ("{6,2,1;1,3,3}", Claim::Cross { i: 2, j: 0 }, open(4)),
         ("{6,2,1;1,3,3}", Claim::Cross { i: 2, j: 2 }, not_met(3)),
         ("{6,2,1;1,3,3}", Claim::Cross { i: 0, j: 1 }, not_met(3)),
-        ("{6,2,1;1,3,3}", Claim::Mult { i: 1 }, not_met(3)),
+        ("{6,2,1;1,3,3}", Claim::Mult { i: 1 }, open(4)),
+        ("{6,2,1;1,3,3}", Claim::Mult { i: 4 }, not_met(3)),
+        (
+            "{6,2,1;1,3,3}",
+            Claim::Krein { i: 1, j: 1, h: 1 },
+            not_met(3),
+        ),
         ("{6,4;1,4}", Claim::Triple { u: 1, v: 1, w: 1 }, not_met(3)),
     ];
     for (text, claim, expected) in cases {
@@ -230,6 +236,133 @@ fn negative_numbers_have_their_residues(rt: HostRuntime) -> Result<(), Fail> {
             row(alloc, 2, 2, &[1, 2, -1])?,
         ]?;
         assert_eq!(rt; answer(alloc, text, claim, lines)?, expected, "{claim:?}");
+    }
+    Ok(())
+}
+
+#[test]
+fn what_stands_is_refused_before_a_product_is_made(rt: HostRuntime) -> Result<(), Fail> {
+    let alloc = rt.alloc();
+    // 2^126, whose double is 2^127.
+    let large = 85070591730234615865843651857942052864;
+    let second = &[1, 5, large];
+    let lines = vec![in alloc; sizes(alloc, second)?]?;
+    assert_eq!(rt; answer(alloc, "{5,4;1,3}", Claim::First, lines)?, wide(4));
+    let lines = vec![in alloc; sizes(alloc, &[1, 5])?, sizes(alloc, second)?]?;
+    assert_eq!(rt;
+        answer(alloc, "{5,4;1,3}", Claim::First, lines)?,
+        not_met(5)
+    );
+    let second = &[large, 1, 1];
+    let lines = vec![in alloc; row(alloc, 2, 1, second)?]?;
+    assert_eq!(rt; answer(alloc, "{4,1;2,2}", Claim::First, lines)?, wide(4));
+    let lines = vec![in alloc; row(alloc, 2, 1, &[0, 1, 1])?, row(alloc, 2, 1, second)?]?;
+    assert_eq!(rt;
+        answer(alloc, "{4,1;2,2}", Claim::First, lines)?,
+        not_met(5)
+    );
+    Ok(())
+}
+
+/// 4095, ten times 4094, and c_1 to c_11 are 1.
+const LARGE_ARRAY: &str =
+    "{4095,4094,4094,4094,4094,4094,4094,4094,4094,4094,4094;1,1,1,1,1,1,1,1,1,1,1}";
+
+/// Its sizes k_0 to k_10, the last of them below 2^120.
+const LARGE_SIZES: [i128; 11] = [
+    1,
+    4095,
+    16764930,
+    68635623420,
+    280994242281480,
+    1150390427900379120,
+    4709698411824152117280,
+    19281505298008078768144320,
+    78938482690045074476782846080,
+    323174148133044534907948971851520,
+    1323074962456684325913143090760122880,
+];
+
+#[test]
+fn work_numbers_of_the_end(rt: HostRuntime) -> Result<(), Fail> {
+    let alloc = rt.alloc();
+    // k_10 b_10 passes 2^127.
+    let claim = Claim::Size { i: 11 };
+    let lines = vec![in alloc; sizes(alloc, &LARGE_SIZES)?]?;
+    assert_eq!(rt; answer(alloc, LARGE_ARRAY, claim, lines)?, wide(5));
+    let lines = vec![in alloc; sizes(alloc, &LARGE_SIZES[..10])?]?;
+    assert_eq!(rt; answer(alloc, LARGE_ARRAY, claim, lines)?, open(5));
+    // So does b_10 p^0_10,10.
+    let claim = Claim::Intersect { h: 0, i: 11, j: 11 };
+    for (count, expected) in [(9, open(13)), (10, wide(14))] {
+        let mut lines = Vec::new(alloc);
+        for i in 1..count + 1 {
+            let mut values = [0; 12];
+            values[i] = LARGE_SIZES[i];
+            lines.push(row(alloc, 0, i as i128, &values)?)?;
+        }
+        assert_eq!(rt; answer(alloc, LARGE_ARRAY, claim, lines)?, expected);
+    }
+    Ok(())
+}
+
+#[test]
+fn roots_of_a_frame(rt: HostRuntime) -> Result<(), Fail> {
+    let alloc = rt.alloc();
+    let claim = Claim::Mult { i: 1 };
+    let cases: [(i128, bool); 9] = [
+        (-1, false),
+        (0, true),
+        (1, false),
+        (2, true),
+        (12, false),
+        (13, true),
+        // The square of a prime; the product of 3, 5, 17, 257 and 65537; and that of 641 and 6700417.
+        (4293001441, false),
+        (4294967295, true),
+        (4294967297, false),
+    ];
+    for (root, is_met) in cases {
+        let lines = vec![in alloc; sizes(alloc, &[1, 4, 12])?, Line::Frame { root }]?;
+        let expected = if is_met { open(6) } else { not_met(5) };
+        assert_eq!(rt;
+            answer(alloc, "{4,3;1,1}", claim, lines)?,
+            expected,
+            "frame {root}"
+        );
+    }
+    Ok(())
+}
+
+#[test]
+fn a_frame_out_of_its_place(rt: HostRuntime) -> Result<(), Fail> {
+    let alloc = rt.alloc();
+    let claim = Claim::Mult { i: 1 };
+    let lines = vec![in alloc; Line::Frame { root: 13 }, sizes(alloc, &[1, 4, 12])?]?;
+    assert_eq!(rt; answer(alloc, "{4,3;1,1}", claim, lines)?, not_met(4));
+    let lines = vec![in alloc; sizes(alloc, &[1, 4])?, Line::Frame { root: 13 }]?;
+    assert_eq!(rt; answer(alloc, "{4,3;1,1}", claim, lines)?, not_met(5));
+    let lines = vec![in alloc;
+        sizes(alloc, &[1, 4, 12])?,
+        Line::Frame { root: 13 },
+        Line::Frame { root: 13 },
+    ]?;
+    assert_eq!(rt; answer(alloc, "{4,3;1,1}", claim, lines)?, not_met(6));
+    let counting = Claim::Size { i: 2 };
+    let lines = vec![in alloc; sizes(alloc, &[1, 4, 12])?, Line::Frame { root: 13 }]?;
+    assert_eq!(rt; answer(alloc, "{4,3;1,1}", counting, lines)?, not_met(5));
+    Ok(())
+}
+
+#[test]
+fn a_derivation_from_its_parts(rt: HostRuntime) -> Result<(), Fail> {
+    let alloc = rt.alloc();
+    for (values, expected) in [(&[1, 5], ACCEPTED), (&[1, 6], not_met(4))] {
+        let array = Array::read(b"{5,4;1,3}")?;
+        let lines = vec![in alloc; sizes(alloc, values)?]?;
+        let claim = Claim::Size { i: 2 };
+        let derivation = Derivation::make(array, claim, lines).ok_or("no text")?;
+        assert_eq!(rt; replay(alloc, &derivation), expected);
     }
     Ok(())
 }

@@ -1,0 +1,96 @@
+//! What the lines `k` and `p` state.
+ghost use Rattle.std.specs.Prelude.{◌≡◌, ◌<◌, ◌+◌, ◌++◌, ◌∷◌, [], length, Some, None, IfOk, MatchResult, slice_set, replicate};
+ghost use Rattle.drg_array.specs.Entries.{diameter};
+ghost use Rattle.drg_replay.specs.Rows.{rows_at as the_rows_at};
+
+use drg_array::Array;
+use drg_derivation::Numbers;
+use std::alloc::{AllocError, Global};
+use std::marker::Model;
+
+/// The rows of intersection numbers with one upper index, from row 1 on.
+#[derive(Debug, Drop)]
+pub struct Rows {
+    rows: Vec<Numbers>,
+}
+
+impl Model for Rows {
+    ghost use Rattle.std.specs.Prelude.{List, ℤ};
+
+    ghost Value = { List (List ℤ) };
+
+    ghost view = { λ r. r.rows.items };
+}
+
+/// The sizes, and the rows of each upper index.
+#[derive(Debug, Drop)]
+pub struct Counts {
+    sizes: Option<Numbers>,
+    rows: Vec<Rows>,
+}
+
+impl Model for Counts {
+    ghost use Rattle.drg_replay.specs.Known.{CountContent};
+
+    ghost Value = { CountContent };
+
+    ghost view = { λ c. record { sizes = c.sizes; rows = c.rows.items } };
+}
+
+/// No rows, for each upper index from 0 to d.
+fn no_rows(alloc: Global, array: &Array) -> Result<Vec<Rows>, AllocError>
+    ensures { IfOk result (λ rows. rows.items ≡ replicate (diameter array.now + 1) []) }
+{
+    let mut rows = Vec::new(alloc);
+    'indices: for _h in 0..array.d() + 1 {
+        rows.push(Rows {
+            rows: Vec::new(alloc),
+        })?;
+    }
+    Ok(rows)
+}
+
+impl Counts {
+    /// Before the first line.
+    pub fn new(alloc: Global, array: &Array) -> Result<Counts, AllocError>
+        ensures { IfOk result (λ counts. counts ≡ record { sizes = None; rows = replicate (diameter array.now + 1) [] }) }
+    {
+        Ok(Counts {
+            sizes: None,
+            rows: no_rows(alloc, array)?,
+        })
+    }
+
+    /// The numbers of the `k` line.
+    pub fn sizes(&self) -> &Option<Numbers>
+        ensures { result.now ≡ self.now.sizes }
+    {
+        &self.sizes
+    }
+
+    /// The rows of an upper index, from row 1 on.
+    pub fn rows_at(&self, h: usize) -> &[Numbers]
+        requires { h < length self.now.rows }
+        ensures { result.now ≡ the_rows_at self.now.rows h }
+    {
+        &self.rows[h].rows
+    }
+
+    /// Keeps the numbers of a `k` line.
+    pub fn keep_sizes(&mut self, sizes: Numbers)
+        ensures { self.new ≡ record self.old { sizes = Some sizes } }
+    {
+        self.sizes = Some(sizes);
+    }
+
+    /// Appends a row of an upper index.
+    pub fn keep_row(&mut self, h: usize, row: Numbers) -> Result<(), AllocError>
+        requires { h < length self.old.rows }
+        ensures { MatchResult result
+            (λ _. self.new ≡ record self.old { rows = slice_set self.old.rows h (the_rows_at self.old.rows h ++ row ∷ []) })
+            (λ _. self.new ≡ self.old) }
+    {
+        self.rows[h].rows.push(row)?;
+        Ok(())
+    }
+}
