@@ -15,10 +15,11 @@ use Rattle.drg_derivation.specs.declared.line.Line.{Line}
 use Rattle.drg_derivation.specs.declared.line.Line.TheVariants.{K}
 use Rattle.drg_intersection.specs.Faults.{AllPass}
 use Rattle.drg_replay.specs.Steps.{EachHolds}
-use Rattle.drg_replay.specs.Claims.{claim_is_met, is_distance, closing_steps, intersect_closing, handshake_closing, induced_closing, triangles_closing}
-use Rattle.drg_replay.specs.Lines.{known_of}
+use Rattle.drg_replay.specs.Claims.{claim_is_met, is_distance, closing_of, intersect_closing, handshake_closing, induced_closing, triangles_closing}
+use Rattle.drg_replay.specs.Lines.{known_at_start}
 use Rattle.drg_replay.specs.Answers.{answer_after}
-use Rattle.drg_engine.specs.Laws.{AreMade, IsMade, AcceptanceLaw}
+use Rattle.drg_engine.specs.Laws.{AcceptanceLaw}
+use Rattle.drg_engine.specs.Made.{AreMade, IsMade}
 use Rattle.drg_engine.specs.Lines.{AreLinesOf, AreRowLines, AreSizesAndRows}
 use Rattle.drg_engine.proofs.StepTests.{at_most, less, other, negative, one}
 use Rattle.drg_engine.proofs.SizeLines.{sizes_hold}
@@ -28,7 +29,7 @@ use Rattle.drg_engine.proofs.Closings.{size_closes, intersect_closes, handshake_
 
 module _ (a : Entries) (array : IsArray a) where
   -- a claim that the entries show
-  shown : (claim : Claim) → claim_is_met a claim ≡ true → EachHolds (closing_steps a claim (known_of a [])) → answer_after a claim [] ≡ Ok Counting
+  shown : (claim : Claim) → claim_is_met a claim ≡ true → EachHolds (closing_of (known_at_start a claim) claim) → answer_after a claim [] ≡ Ok Counting
   shown claim met closed = accepted a claim 0 [] None [] (none_taken a claim 0 met) closed
 
   distance : (i : ℕ) → IsPlace a i → is_distance a i ≡ true
@@ -59,7 +60,7 @@ module _ (a : Entries) (array : IsArray a) where
       let same : x ≡ q (suc m) j = one_number a h (suc m) j x (q (suc m) j) array hi hj is (q, qs, refl) in
       let closed = intersect_closes a h q qs array all.rows m j hi hj (all.count_is ∙ omega arith) all.stated made.fits (subst (λ y. ¬ IsNatural y) same never) in
       accepted a (Intersect h (suc m) j) h (onto lines []) None all.rows all.taken
-      (on_known a (Intersect h (suc m) j) h (λ sizes rows. EachHolds (intersect_closing a h rows (suc m) j)) _ _ _ all.taken closed)
+      (on_known a (Intersect h (suc m) j) h (λ b sizes rows. EachHolds (intersect_closing b h rows (suc m) j)) _ _ _ all.taken closed)
 
   -- a line with all sizes and then rows of h
   record FullTaken (claim : Claim) (h : ℕ) (q : ℕ → ℕ → ℚ) (m : ℕ) (lines : List Line) : Type 0 where
@@ -89,7 +90,7 @@ module _ (a : Entries) (array : IsArray a) where
       let all = full_taken (Handshake i) i 0 q qs lines (distance i place) place.1 (omega arith) pass are in
       let closed = handshake_closes a array all.values all.sizes all.count i place.1 never in
       accepted a (Handshake i) i (onto lines []) _ _ all.rest.taken
-      (on_known a (Handshake i) i (λ sizes rows. EachHolds (handshake_closing a sizes i)) _ _ _ all.rest.taken closed)
+      (on_known a (Handshake i) i (λ b sizes rows. EachHolds (handshake_closing b sizes i)) _ _ _ all.rest.taken closed)
 
   induced_answer : (i j : ℕ) (lines : List Line) → Fails a (Induced i j) → AllPass a → AreSizesAndRows a i i lines → answer_after a (Induced i j) (onto lines []) ≡ Ok Counting
   induced_answer i j lines (place, second, x, is, never) pass are =
@@ -99,7 +100,7 @@ module _ (a : Entries) (array : IsArray a) where
       let closed = induced_closes a array all.values all.sizes all.count i place.1 q all.rest.rows (all.rest.count_is ∙ omega arith) all.rest.stated j second.1
       (subst (λ y. ¬ IsWholeMultiple 2 (times (size a i) y)) same never) in
       accepted a (Induced i j) i (onto lines []) _ _ all.rest.taken
-      (on_known a (Induced i j) i (λ sizes rows. EachHolds (induced_closing a sizes rows i j)) _ _ _ all.rest.taken closed)
+      (on_known a (Induced i j) i (λ b sizes rows. EachHolds (induced_closing b sizes rows i j)) _ _ _ all.rest.taken closed)
 
   triangles_answer : (i : ℕ) (lines : List Line) → Fails a (Triangles i) → AllPass a → AreSizesAndRows a i i lines → answer_after a (Triangles i) (onto lines []) ≡ Ok Counting
   triangles_answer i lines (place, x, is, never) pass are =
@@ -109,7 +110,7 @@ module _ (a : Entries) (array : IsArray a) where
       let closed = triangles_closes a array all.values all.sizes all.count i place.1 q all.rest.rows (all.rest.count_is ∙ omega arith) all.rest.stated
       (subst (λ y. ¬ IsWholeMultiple 6 (times (vertex_count a) (times (size a i) y))) same never) in
       accepted a (Triangles i) i (onto lines []) _ _ all.rest.taken
-      (on_known a (Triangles i) i (λ sizes rows. EachHolds (triangles_closing a sizes rows i)) _ _ _ all.rest.taken closed)
+      (on_known a (Triangles i) i (λ b sizes rows. EachHolds (triangles_closing b sizes rows i)) _ _ _ all.rest.taken closed)
 
 bare : (a : Entries) (claim : Claim) (lines : List Line) → lines ≡ [] → answer_after a claim [] ≡ Ok Counting → answer_after a claim (reverse lines) ≡ Ok Counting
 bare a claim lines e h = ap (λ ls. answer_after a claim (reverse ls)) e ∙ h

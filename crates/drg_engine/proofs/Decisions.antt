@@ -14,14 +14,19 @@ use Rattle.drg_counting.specs.ClaimOrder.{test_number}
 use Rattle.drg_derivation.specs.Content.{Content}
 use Rattle.drg_derivation.specs.declared.line.Line.{Line}
 use Rattle.drg_graph.specs.NumberLaws.{CountingClaimsLaw}
-use Rattle.drg_intersection.specs.Faults.{IsFirstWide}
+use Rattle.drg_intersection.specs.Faults.{AllPass, IsFirstWide, IsFault}
+use Rattle.drg_intersection.specs.Laws.{OneFault, NoFaultWhereAllPass}
+use Rattle.drg_intersection.specs.declared.fault.NumbersFault.TheVariants as fault
+use Rattle.drg_array.specs.declared.claim.Claim.TheVariants.{First, Degree, Order, Cross, Size, Intersect, Handshake, Induced, Triangles}
+use Rattle.drg_counting.specs.ClaimOrder.{IsBasic}
 use Rattle.drg_intersection.specs.Numbers.{Numbers, AreNumbersOf}
 use Rattle.drg_replay.specs.Answers.{answer_of}
 use Rattle.drg_report.specs.declared.verdict.Cause.TheVariants.{Wide}
 use Rattle.drg_report.specs.declared.verdict.Pending.{Pending}
 use Rattle.drg_report.specs.declared.verdict.Verdict.{Verdict}
 use Rattle.drg_report.specs.declared.verdict.Verdict.TheVariants.{Infeasible, Undecided, Survivor}
-use Rattle.drg_engine.specs.Laws.{IsDecided, NoneIsWide}
+use Rattle.drg_engine.specs.Laws.{IsDecided, IsOpen, NoneIsWide}
+use Rattle.drg_engine.specs.Made.{AreMade}
 use Rattle.drg_engine.specs.Lines.{AreLinesOf}
 use Rattle.drg_engine.specs.Verdicts.{AreTests, IsEarlier, IsFirstFailing, IsInfeasible, IsNodeOf, IsSurvivor, IsUndecided, Runs, RunsBefore, VerdictHolds}
 use Rattle.drg_engine.proofs.ClaimFacts.{counting_claim, small_claim}
@@ -41,9 +46,10 @@ module _ (law : HoldsWhereNoneFails) (a : Entries) where
 
   module _ (graph : CountingClaimsLaw) (array : IsArray a) where
     pub infeasible : (claim : Claim) (class : Class) (lines : List Line) (pending : List Pending) → class ≡ class_of claim → AreLinesOf a claim lines
-        → answer_of (of_parts a claim lines) ≡ Ok Counting → pending ≡ [] → (tests : List Test) → IsFirstFailing a tests claim → IsInfeasible a tests claim class (of_parts a claim lines) pending
-    infeasible claim class lines pending same are answer none tests first = record {
+        → answer_of (of_parts a claim lines) ≡ Ok Counting → pending ≡ [] → AreMade a claim → (tests : List Test) → IsFirstFailing a tests claim → IsInfeasible a tests claim class (of_parts a claim lines) pending
+    infeasible claim class lines pending same are answer none made tests first = record {
       claimed = first;
+      made = made;
       held = held_before tests claim first;
       same_class = same;
       derived = record { same_array = refl; same_claim = refl; lines = are; accepted = answer ∙ ap Ok (sym (same ∙ counting_claim a claim first.fails)) };
@@ -65,16 +71,39 @@ module _ (law : HoldsWhereNoneFails) (a : Entries) where
         law a t (is_array_test t (omega (arith, runs.1, small))) (λ claim same fails. none claim (subst (λ u. IsEarlier u last) (sym same) runs.1) fails);
   }
 
-  pub survivor : (tests passed : List Test) (numbers : Numbers) → IsSelection tests → AreTests (Runs tests) passed → AreNumbersOf a numbers
+  pub survivor : (tests passed : List Test) (numbers : Numbers) → IsSelection tests → AreTests (Runs tests) passed → AreNumbersOf a numbers → AllPass a
       → ((claim : Claim) → Runs tests (test_of claim) → Fails a claim → ⊥) → IsSurvivor a tests passed numbers
-  survivor tests passed numbers selection are numbers_of none = record {
+  survivor tests passed numbers selection are numbers_of pass none = record {
     all_passed = are;
     held = λ t h. let runs = (are.members t).0 h in
         law a t (is_array_test t (runs_small tests t selection runs)) (λ claim same fails. none claim (subst (Runs tests) (sym same) runs) fails);
     numbers_of = numbers_of;
+    pass = pass;
   }
 
 pub decided : FailsWhereFalse → (a : Entries) (tests : List Test) (verdict : Verdict) → NoneIsWide a → VerdictHolds a tests verdict → IsDecided a tests verdict
 decided false a tests (Infeasible claim class derivation pending) none right = (right.claimed.runs, false a claim right.claimed.fails)
 decided false a tests (Undecided passed pending) none right = none right.node right.wide
 decided false a tests (Survivor passed numbers) none right = λ t runs. right.held t ((right.all_passed.members t).1 runs)
+
+module _ (one : OneFault) (none : NoFaultWhereAllPass) (a : Entries) (node : Node) (wide : IsFirstWide a node) where
+  no_claim : ((claim : Claim) → IsBasic claim → Fails a claim → ⊥) → (claim : Claim) → Fails a claim → AreMade a claim → ⊥
+  no_claim basic First fails made = basic First (omega arith) fails
+  no_claim basic (Degree i) fails made = basic (Degree i) (omega arith) fails
+  no_claim basic (Order i) fails made = basic (Order i) (omega arith) fails
+  no_claim basic (Cross i j) fails made = basic (Cross i j) (omega arith) fails
+  no_claim basic (Size i) fails made =
+      let falls : IsFault a (fault.Fall (Size i)) = record { is_node = fails.0.1; reached = made.reached; fits = made.fits; failed = fails } in
+      let same = one a (fault.Wide node) (fault.Fall (Size i)) (λ e. cc) (λ e. cc) wide falls in cc
+  no_claim basic (Intersect h i j) fails made =
+      let falls : IsFault a (fault.Fall (Intersect h i j)) = record { is_node = (fails.0, fails.1, fails.2); reached = made.reached; fits = made.fits; failed = fails } in
+      let same = one a (fault.Wide node) (fault.Fall (Intersect h i j)) (λ e. cc) (λ e. cc) wide falls in cc
+  no_claim basic (Handshake i) fails made = none a (fault.Wide node) (λ e. cc) made wide
+  no_claim basic (Induced i j) fails made = none a (fault.Wide node) (λ e. cc) made wide
+  no_claim basic (Triangles i) fails made = none a (fault.Wide node) (λ e. cc) made wide
+  no_claim basic claim fails made = absurd fails
+
+  pub stays_open : (tests : List Test) (verdict : Verdict) → ((claim : Claim) → IsBasic claim → Fails a claim → ⊥) → VerdictHolds a tests verdict → IsOpen verdict
+  stays_open tests (Infeasible claim class derivation pending) basic right = no_claim basic claim right.claimed.fails right.made
+  stays_open tests (Undecided passed pending) basic right = tt
+  stays_open tests (Survivor passed numbers) basic right = none a (fault.Wide node) (λ e. cc) right.pass wide

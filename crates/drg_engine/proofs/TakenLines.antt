@@ -15,13 +15,15 @@ use Rattle.drg_array.proofs.NumberLaws.{one_number}
 use Rattle.drg_derivation.specs.declared.line.Line.{Line}
 use Rattle.drg_derivation.specs.declared.line.Line.TheVariants.{K, P}
 use Rattle.drg_intersection.specs.Fits.{Fits}
-use Rattle.drg_replay.specs.declared.answer.Progress.TheVariants.{AllMet}
-use Rattle.drg_replay.specs.Steps.{EachHolds}
+use Rattle.drg_replay.specs.declared.progress.Progress.TheVariants.{AllMet}
+use Rattle.drg_replay.specs.Steps.{Holds, EachHolds}
 use Rattle.drg_replay.specs.Sizes.{size_steps}
 use Rattle.drg_replay.specs.Rows.{rows_at, row_steps}
-use Rattle.drg_replay.specs.Lines.{is_index, sizes_of, rows_of, framed_by, known_of, steps_of}
-use Rattle.drg_replay.specs.Claims.{claim_is_met, closing_steps}
-use Rattle.drg_replay.specs.Answers.{first_decision, answer_after}
+use Rattle.drg_replay.specs.Indices.{is_index}
+use Rattle.drg_replay.specs.Lines.{known_of, steps_of}
+use Rattle.drg_replay.specs.Claims.{claim_is_met, closing_of, closing_steps}
+use Rattle.drg_replay.specs.Answers.{progress_of, answer_after}
+use Rattle.drg_replay.proofs.ProgressLaws.{array_stays, claim_stays}
 use Rattle.drg_replay.proofs.RowLaws.{no_rows_at, length_more}
 use Rattle.drg_engine.specs.Lines.{AreRowLines}
 use Rattle.drg_engine.proofs.StepTests.{none_fails}
@@ -41,11 +43,11 @@ all_onto lines = onto_is lines [] ∙ append-nil (reverse lines)
 
 -- the lines, the newest of them first, are met; what they state of the sizes, and the rows of h
 pub record Taken (a : Entries) (claim : Claim) (h : ℕ) (lines : List Line) (sizes : Option (List ℤ)) (rows : List (List ℤ)) : Type 0 where
-  pub met : first_decision a claim lines ≡ AllMet
-  pub sizes_are : sizes_of lines ≡ sizes
-  pub rows_are : rows_at (rows_of a lines) h ≡ rows
-  pub width : length (rows_of a lines) ≡ suc (diameter a)
-  pub plain : framed_by lines ≡ false
+  pub met : progress_of a claim lines ≡ AllMet (known_of a claim lines)
+  pub sizes_are : (known_of a claim lines).counts.sizes ≡ sizes
+  pub rows_are : rows_at (known_of a claim lines).counts.rows h ≡ rows
+  pub width : length (known_of a claim lines).counts.rows ≡ suc (diameter a)
+  pub plain : (known_of a claim lines).frame ≡ None
 
 not_above : (m n : ℕ) → m ≤ n → int_le (pos m) (pos n) ≡ true
 not_above m n h = by (int_le (pos m) (pos n)) refl where
@@ -79,18 +81,20 @@ module _ (a : Entries) (claim : Claim) (h : ℕ) where
       → EachHolds (row_steps a h rows (length rows) values) → Taken a claim h earlier sizes rows
       → Taken a claim h (P (pos h) (pos (suc (length rows))) values ∷ earlier) sizes (rows ++ values ∷ [])
   row_taken earlier sizes rows values hh inside holds taken =
+      let k = known_of a claim earlier in
       let back : suc (length rows) - 1 ≡ length rows = omega arith in
-      let R : List (List ℤ) → ℕ → Type 0 = λ r n. EachHolds (row_steps a h r n values) in
-      let here : EachHolds (row_steps a h (rows_at (rows_of a earlier) h) (suc (length rows) - 1) values) =
-      subst (λ r. R r (suc (length rows) - 1)) (sym taken.rows_are) (subst (R rows) (sym back) holds) in
-      let steps : EachHolds (steps_of a (known_of a earlier) (P (pos h) (pos (suc (length rows))) values)) =
-      (index 0 h (diameter a) (omega arith) hh, (index 1 (suc (length rows)) (diameter a) (omega arith) inside, here)) in
+      let S : Entries → List (List ℤ) → ℕ → Type 0 =
+      λ b r n. EachHolds (Holds (is_index 0 (pos h) (diameter b)) ∷ Holds (is_index 1 (pos (suc (length rows))) (diameter b)) ∷ row_steps b h r n values) in
+      let here : S a rows (length rows) = (index 0 h (diameter a) (omega arith) hh, (index 1 (suc (length rows)) (diameter a) (omega arith) inside, holds)) in
+      let steps : EachHolds (steps_of k (P (pos h) (pos (suc (length rows))) values)) =
+      subst (λ b. S b (rows_at k.counts.rows h) (suc (length rows) - 1)) (sym (array_stays a claim earlier))
+      (subst (λ r. S a r (suc (length rows) - 1)) (sym taken.rows_are) (subst (S a rows) (sym back) here)) in
       record {
-        met = rw (taken.met, none_fails (steps_of a (known_of a earlier) (P (pos h) (pos (suc (length rows))) values)) steps) refl;
+        met = rw (taken.met, none_fails (steps_of k (P (pos h) (pos (suc (length rows))) values)) steps) refl;
         sizes_are = taken.sizes_are;
-        rows_are = get_or-set_same (rows_of a earlier) h (rows_at (rows_of a earlier) h ++ values ∷ []) [] (let wide = taken.width in omega (arith, wide, hh))
+        rows_are = get_or-set_same k.counts.rows h (rows_at k.counts.rows h ++ values ∷ []) [] (let wide = taken.width in omega (arith, wide, hh))
             ∙ ap (λ r. r ++ values ∷ []) taken.rows_are;
-        width = length-set (rows_of a earlier) h _ ∙ taken.width;
+        width = length-set k.counts.rows h _ ∙ taken.width;
         plain = taken.plain;
       }
 
@@ -123,12 +127,18 @@ module _ (a : Entries) (claim : Claim) (h : ℕ) where
         subst (Q (onto lines (P g l values ∷ earlier))) (omega (arith, more)) all
     rows_taken (suc m) (line ∷ lines) earlier sizes rows stated short fits are taken = absurd are.0
 
-  -- what holds of the sizes and rows that the lines state holds of those that are known
-  pub on_known : (C : Option (List ℤ) → List (List ℤ) → Type 0) (lines : List Line) (sizes : Option (List ℤ)) (rows : List (List ℤ)) → Taken a claim h lines sizes rows
-      → C sizes rows → C (sizes_of lines) (rows_at (rows_of a lines) h)
-  on_known C lines sizes rows taken holds = subst (λ s. C s (rows_at (rows_of a lines) h)) (sym taken.sizes_are) (subst (C sizes) (sym taken.rows_are) holds)
+  -- what holds of the array, and of the sizes and rows that the lines state, holds of those that are known
+  pub on_known : (C : Entries → Option (List ℤ) → List (List ℤ) → Type 0) (lines : List Line) (sizes : Option (List ℤ)) (rows : List (List ℤ)) → Taken a claim h lines sizes rows
+      → C a sizes rows → C (known_of a claim lines).array (known_of a claim lines).counts.sizes (rows_at (known_of a claim lines).counts.rows h)
+  on_known C lines sizes rows taken holds =
+      let k = known_of a claim lines in
+      subst (λ b. C b k.counts.sizes (rows_at k.counts.rows h)) (sym (array_stays a claim lines))
+      (subst (λ s. C a s (rows_at k.counts.rows h)) (sym taken.sizes_are) (subst (C a sizes) (sym taken.rows_are) holds))
 
   -- where the claim is closed too, the derivation is accepted
   pub accepted : (lines : List Line) (sizes : Option (List ℤ)) (rows : List (List ℤ)) → Taken a claim h lines sizes rows
-      → EachHolds (closing_steps a claim (known_of a lines)) → answer_after a claim lines ≡ Ok Counting
-  accepted lines sizes rows taken holds = rw (taken.met, none_fails (closing_steps a claim (known_of a lines)) holds, taken.plain) refl
+      → EachHolds (closing_of (known_of a claim lines) claim) → answer_after a claim lines ≡ Ok Counting
+  accepted lines sizes rows taken holds =
+      let k = known_of a claim lines in
+      let closed : EachHolds (closing_steps k) = subst (λ c. EachHolds (closing_of k c)) (sym (claim_stays a claim lines)) holds in
+      rw (taken.met, none_fails (closing_steps k) closed, taken.plain) refl

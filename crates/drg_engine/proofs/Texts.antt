@@ -1,6 +1,6 @@
 -- An accepted derivation of a claim that the array fails has a text.
-use Rattle.std.proofs.Common.{◌≡◌, ℕ, zero, suc, ◌+◌, ◌-◌, ◌*◌, ◌^◌, ◌<◌, ◌≤◌, true, List, [], ◌∷◌, length, reverse, Ok, sym, ap, ◌∙◌, subst, arith, Option}
-use Rattle.std.specs.Prelude.{ℤ, pos, negsuc, ◌*ℤ◌, int_le, unsigned_abs}
+use Rattle.std.proofs.Common.{◌≡◌, ℕ, zero, suc, ◌+◌, ◌-◌, ◌*◌, ◌^◌, ◌<◌, ◌≤◌, true, List, [], ◌∷◌, length, reverse, Ok, sym, ap, ◌∙◌, subst, arith, inl, inr, Option}
+use Rattle.std.specs.Prelude.{ℤ, pos, negsuc, ◌*ℤ◌, ◌⊎◌, int_le, unsigned_abs}
 use Rattle.std.specs.List.{AllByRecursion}
 use Rattle.std.proofs.lemmas.Int.{ints, unsigned_abs-mul}
 use Rattle.std.proofs.lemmas.List.{reverse-reverse}
@@ -11,19 +11,23 @@ use Rattle.drg_array.specs.declared.claim.Claim.TheVariants.{First, Degree, Orde
 use Rattle.drg_array.specs.declared.claim.Class.TheVariants.{Counting}
 use Rattle.drg_array.proofs.EntryLemmas.{c-positive}
 use Rattle.drg_derivation.specs.declared.line.Line.{Line}
-use Rattle.drg_derivation.specs.declared.line.Line.TheVariants.{K, P}
+use Rattle.drg_derivation.specs.declared.line.Line.TheVariants.{K, P, Frame}
 use Rattle.drg_derivation.specs.Integers.{IsShort}
 use Rattle.drg_derivation.specs.Lines.{AreEvidence, AreShort}
 use Rattle.drg_derivation.specs.Text.{IsClaim}
-use Rattle.drg_replay.specs.Steps.{EachHolds, first_failure}
+use Rattle.drg_replay.specs.Known.{KnownContent}
+use Rattle.drg_replay.specs.Steps.{EachHolds}
 use Rattle.drg_replay.specs.Work.{in_range}
 use Rattle.drg_replay.specs.Sizes.{sizes_from, size_steps}
 use Rattle.drg_replay.specs.Rows.{rows_at, cells_from}
-use Rattle.drg_replay.specs.Lines.{is_index, known_of, steps_of, rows_of, framed_by}
-use Rattle.drg_replay.specs.Claims.{closing_steps}
-use Rattle.drg_replay.specs.Answers.{outcome, first_decision, class_of}
+use Rattle.drg_replay.specs.Indices.{is_index}
+use Rattle.drg_replay.specs.Lines.{known_of, steps_of}
+use Rattle.drg_replay.specs.Roots.{IsSquarefreeRoot}
+use Rattle.drg_replay.specs.Answers.{outcome, progress_of}
 use Rattle.drg_replay.specs.Soundness.{AllAreMet}
-use Rattle.drg_replay.proofs.Soundness.{above_zero, accepted, all_are_met}
+use Rattle.drg_replay.proofs.Soundness.{above_zero}
+use Rattle.drg_replay.proofs.ProgressLaws.{accepted, all_are_met, array_stays}
+use Rattle.drg_replay.proofs.RootLaws.{root_found}
 use Rattle.drg_replay.proofs.StepLaws.{each_holds, both, at_most, is_less, is_same, is_whole_same}
 use Rattle.drg_engine.specs.Laws.{TextLaw}
 use Rattle.drg_engine.proofs.TakenLines.{onto, all_onto}
@@ -65,6 +69,7 @@ cells_short a h rows i j (v ∷ vs) array inside steps =
 abbrev CanStand : Entries → Line → Type 0
 CanStand a (K values) = (1 ≤ length values) × (length values ≤ suc (diameter a)) × AllByRecursion IsShort values
 CanStand a (P h i values) = (length values ≡ suc (diameter a)) × IsShort h × IsShort i × AllByRecursion IsShort values
+CanStand a (Frame root) = IsShort root
 CanStand a line = ⊥
 
 sizes_stand : (a : Entries) (array : IsArray a) (sizes : Option (List ℤ)) (values : List ℤ) → EachHolds (size_steps a sizes values) → CanStand a (K values)
@@ -74,22 +79,30 @@ sizes_stand a array sizes (v ∷ vs) h =
     let first : v ≡ pos 1 = is_whole_same v (pos 1) h.1.1.0 in
     (omega arith, omega (arith, long), ((let P : ℤ → Type 0 = λ z. IsShort z in subst P (sym first) (omega arith)), sizes_short a 0 v vs array (omega (arith, long)) h.1.1.1))
 
-stands : (a : Entries) → IsArray a → (earlier : List Line) (line : Line) → outcome a earlier line ≡ Ok tt → CanStand a line
-stands a array earlier (K values) met = sizes_stand a array _ values (each_holds (steps_of a (known_of a earlier) (K values)) met)
-stands a array earlier (P h i values) met =
-    let steps = each_holds (steps_of a (known_of a earlier) (P h i values)) met in
-    let small = array.short in
-    let count = is_same (length values) (diameter a + 1) steps.1.1.1.1.0 in (
-      omega (arith, count),
-      (index_short 0 h (diameter a) small steps.0).1,
-      (index_short 1 i (diameter a) small steps.1.0).1,
-      cells_short a (unsigned_abs h) (rows_at (rows_of a earlier) (unsigned_abs h)) (unsigned_abs i - 1) 0 values array (above_zero i (diameter a) steps.1.0) steps.1.1.1.1.1,
-    )
-stands a array earlier line met = cc
+root_short : (root : ℤ) → (root ≡ pos 0) ⊎ IsSquarefreeRoot root → IsShort root
+root_short root (inl e) = subst IsShort (sym e) (omega arith)
+root_short root (inr r) = (let high = r.high in let short : IsShort (pos r.number) = omega (arith, high) in subst IsShort (sym r.is) short)
 
-all_stand : (a : Entries) → IsArray a → (lines : List Line) → AllAreMet a lines → AllByRecursion (CanStand a) lines
-all_stand a array [] met = tt
-all_stand a array (line ∷ earlier) met = (stands a array earlier line met.1, all_stand a array earlier met.0)
+stands : (k : KnownContent) → IsArray k.array → (line : Line) → outcome k line ≡ Ok tt → CanStand k.array line
+stands k array (K values) met = sizes_stand k.array array _ values (each_holds (steps_of k (K values)) met)
+stands k array (P h i values) met =
+    let steps = each_holds (steps_of k (P h i values)) met in
+    let small = array.short in
+    let d = diameter k.array in
+    let count = is_same (length values) (d + 1) steps.1.1.1.1.0 in (
+      omega (arith, count),
+      (index_short 0 h d small steps.0).1,
+      (index_short 1 i d small steps.1.0).1,
+      cells_short k.array (unsigned_abs h) (rows_at k.counts.rows (unsigned_abs h)) (unsigned_abs i - 1) 0 values array (above_zero i d steps.1.0) steps.1.1.1.1.1,
+    )
+stands k array (Frame root) met = root_short root ((root_found root).0 (each_holds (steps_of k (Frame root)) met).1.1.1.0)
+stands k array line met = cc
+
+all_stand : (a : Entries) (claim : Claim) → IsArray a → (lines : List Line) → AllAreMet a claim lines → AllByRecursion (CanStand a) lines
+all_stand a claim array [] met = tt
+all_stand a claim array (line ∷ earlier) met =
+    let here = array_stays a claim earlier in
+    (subst (λ b. CanStand b line) here (stands (known_of a claim earlier) (subst IsArray (sym here) array) line met.1), all_stand a claim array earlier met.0)
 
 all_in : (Q : Line → Type 0) (lines earlier : List Line) → AllByRecursion Q lines → AllByRecursion Q earlier → AllByRecursion Q (onto lines earlier)
 all_in Q [] earlier here there = there
@@ -102,12 +115,14 @@ evidence : (a : Entries) (width : ℕ) (lines : List Line) → AllByRecursion (C
 evidence a width [] all = tt
 evidence a width (K values ∷ lines) all = (let can = all.0 in (can.0, omega (arith, can.1)), evidence a width lines all.1)
 evidence a width (P h i values ∷ lines) all = (let count = all.0.0 in omega (arith, count), evidence a width lines all.1)
+evidence a width (Frame root ∷ lines) all = (omega arith, evidence a _ lines all.1)
 evidence a width (line ∷ lines) all = absurd all.0
 
 all_short : (a : Entries) (lines : List Line) → AllByRecursion (CanStand a) lines → AreShort lines
 all_short a [] all = tt
 all_short a (K values ∷ lines) all = (all.0.2, all_short a lines all.1)
 all_short a (P h i values ∷ lines) all = ((all.0.1, (all.0.2, all.0.3)), all_short a lines all.1)
+all_short a (Frame root ∷ lines) all = ((all.0, tt), all_short a lines all.1)
 all_short a (line ∷ lines) all = absurd all.0
 
 -- ---- the claim
@@ -129,6 +144,7 @@ has_text derivation array fails made are =
     let a = derivation.array in
     let lines = reverse derivation.lines in
     let answer = answer_is a derivation.claim derivation.lines array fails made are in
-    let parts = accepted (first_decision a derivation.claim lines) (first_failure (closing_steps a derivation.claim (known_of a lines))) (class_of (framed_by lines)) Counting (length lines + 4) answer in
-    let all = all_back (CanStand a) derivation.lines (all_stand a array lines (all_are_met a derivation.claim lines parts.0)) in
+    let end = accepted (progress_of a derivation.claim lines) Counting (length lines + 4) answer in
+    let met = (all_are_met a derivation.claim lines end.known end.all_met).0 in
+    let all = all_back (CanStand a) derivation.lines (all_stand a derivation.claim array lines met) in
     record { array = array; claim = small a derivation.claim array fails; evidence = evidence a 2 derivation.lines all; short = all_short a derivation.lines all }

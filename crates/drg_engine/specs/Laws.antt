@@ -5,37 +5,18 @@ use Rattle.drg_array.specs.Claims.{test_of}
 use Rattle.drg_array.specs.Conditions.{Fails, Holds}
 use Rattle.drg_array.specs.declared.test.Test.{Test}
 use Rattle.drg_array.specs.declared.claim.Claim.{Claim}
-use Rattle.drg_array.specs.declared.claim.Claim.TheVariants.{First, Degree, Order, Cross, Size, Intersect, Handshake, Induced, Triangles}
 use Rattle.drg_array.specs.declared.claim.Class.TheVariants.{Counting}
 use Rattle.drg_array.specs.declared.node.Node.{Node}
-use Rattle.drg_array.specs.declared.node.Node.TheVariants.{K, P}
 use Rattle.drg_derivation.specs.Content.{Content}
 use Rattle.drg_derivation.specs.Text.{HasText}
-use Rattle.drg_intersection.specs.Faults.{AllPass, IsFirstWide, IsReached}
-use Rattle.drg_intersection.specs.Fits.{Fits}
+use Rattle.drg_counting.specs.ClaimOrder.{IsBasic}
+use Rattle.drg_intersection.specs.Faults.{IsFirstWide}
 use Rattle.drg_replay.specs.Answers.{answer_of}
 use Rattle.drg_report.specs.declared.verdict.Verdict.{Verdict}
 use Rattle.drg_report.specs.declared.verdict.Verdict.TheVariants.{Infeasible, Undecided, Survivor}
 use Rattle.drg_engine.specs.Lines.{AreLinesOf}
+use Rattle.drg_engine.specs.Made.{AreMade}
 use Rattle.drg_engine.specs.Verdicts.{Runs, VerdictHolds}
-
--- no number before this one fails, and its formula fits
-pub record IsMade (a : Entries) (node : Node) : Type 0 where
-  pub reached : IsReached a node
-  pub fits : Fits a node
-
--- the numbers on which the claim rests are made
-abbrev pub AreMade : Entries → Claim → Type 0
-AreMade a First = Unit {0}
-AreMade a (Degree i) = Unit {0}
-AreMade a (Order i) = Unit {0}
-AreMade a (Cross i j) = Unit {0}
-AreMade a (Size i) = IsMade a (K i)
-AreMade a (Intersect h i j) = IsMade a (P h i j)
-AreMade a (Handshake i) = AllPass a
-AreMade a (Induced i j) = AllPass a
-AreMade a (Triangles i) = AllPass a
-AreMade a claim = ⊥
 
 -- a derivation with the lines of its claim is accepted, where the array fails the claim and the numbers on which the claim
 -- rests are made
@@ -61,3 +42,14 @@ IsDecided a tests (Survivor passed numbers) = (t : Test) → Runs tests t → Ho
 -- where no number is too wide, a right verdict decides
 abbrev pub CompletenessLaw : Type 0
 CompletenessLaw = (a : Entries) (tests : List Test) (verdict : Verdict) → NoneIsWide a → VerdictHolds a tests verdict → IsDecided a tests verdict
+
+-- the verdict is that a number is too wide
+abbrev pub IsOpen : Verdict → Type 0
+IsOpen (Infeasible claim class derivation pending) = ⊥
+IsOpen (Undecided passed pending) = Unit {0}
+IsOpen (Survivor passed numbers) = ⊥
+
+-- where the tests on the entries hold and the first number that fails is too wide, a right verdict says so
+abbrev pub WideLaw : Type 0
+WideLaw = (a : Entries) (tests : List Test) (verdict : Verdict) (node : Node) → ((claim : Claim) → IsBasic claim → Fails a claim → ⊥) → IsFirstWide a node
+    → VerdictHolds a tests verdict → IsOpen verdict

@@ -14,7 +14,7 @@ use Rattle.drg_array.specs.declared.node.Node.TheVariants.{K, N, P}
 use Rattle.drg_counting.specs.ClaimOrder.{ComesBefore, test_number}
 use Rattle.drg_derivation.specs.Content.{Content}
 use Rattle.drg_graph.specs.Graph.{NoGraph}
-use Rattle.drg_intersection.specs.Faults.{IsFirstWide}
+use Rattle.drg_intersection.specs.Faults.{AllPass, IsFirstWide}
 use Rattle.drg_intersection.specs.Numbers.{Numbers, AreNumbersOf}
 use Rattle.drg_replay.specs.Answers.{answer_of}
 use Rattle.drg_report.specs.declared.verdict.Cause.TheVariants.{Wide}
@@ -22,6 +22,7 @@ use Rattle.drg_report.specs.declared.verdict.Pending.{Pending}
 use Rattle.drg_report.specs.declared.verdict.Verdict.{Verdict}
 use Rattle.drg_report.specs.declared.verdict.Verdict.TheVariants.{Infeasible, Undecided, Survivor}
 use Rattle.drg_engine.specs.Lines.{AreLinesOf}
+use Rattle.drg_engine.specs.Made.{AreMade}
 
 -- the test runs: it is one of the first six, or it is selected
 abbrev pub Runs : List Test → Test → Type 0
@@ -67,6 +68,8 @@ IsNodeOf t node = ⊥
 -- The first failing claim of the tests that run, with its derivation; each earlier test holds.
 pub record IsInfeasible (a : Entries) (tests : List Test) (claim : Claim) (class : Class) (derivation : Content) (pending : List Pending) : Type 0 where
   pub claimed : IsFirstFailing a tests claim
+  -- each number before those that show it passes
+  pub made : AreMade a claim
   pub held : (t : Test) → RunsBefore tests (test_of claim) t → Holds a t
   pub same_class : class ≡ class_of claim
   pub derived : Derives a claim class derivation
@@ -89,6 +92,7 @@ pub record IsSurvivor (a : Entries) (tests passed : List Test) (numbers : Number
   pub all_passed : AreTests (Runs tests) passed
   pub held : (t : Test) → Contains passed t → Holds a t
   pub numbers_of : AreNumbersOf a numbers
+  pub pass : AllPass a
 
 -- The verdict is right for the array and the selected tests.
 abbrev pub VerdictHolds : Entries → List Test → Verdict → Type 0

@@ -8,7 +8,7 @@ ghost use Rattle.drg_array.specs.declared.claim.Claim.{Claim as TheClaim};
 ghost use Rattle.drg_counting.specs.ClaimOrder.{IsBasic};
 ghost use Rattle.drg_intersection.specs.Faults.{AllPass, IsFirstWide, IsNode};
 ghost use Rattle.drg_intersection.specs.Numbers.{AreNumbersOf};
-ghost use Rattle.drg_engine.specs.Laws.{AreMade};
+ghost use Rattle.drg_engine.specs.Made.{AreMade};
 ghost use Rattle.drg_engine.specs.Verdicts.{IsFirstFailing, IsNodeOf, VerdictHolds};
 
 use crate::lines::lines_of;

@@ -12,7 +12,7 @@ mod lines;
 mod passed;
 
 pub use judging::judge;
-pub use laws::{acceptance_law, completeness_law, text_law};
+pub use laws::{acceptance_law, completeness_law, text_law, wide_law};
 
 #[cfg(test)]
 mod tests;

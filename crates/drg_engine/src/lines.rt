@@ -8,7 +8,7 @@ ghost use Rattle.drg_array.specs.Numbers.{IsIntersectionNumber};
 ghost use Rattle.drg_array.specs.declared.node.Node.TheVariants.{K, P};
 ghost use Rattle.drg_derivation.specs.declared.line.Line.{Line as TheLine};
 ghost use Rattle.drg_intersection.specs.Faults.{AllPass, IsReached};
-ghost use Rattle.drg_engine.specs.Laws.{AreMade};
+ghost use Rattle.drg_engine.specs.Made.{AreMade};
 ghost use Rattle.drg_engine.specs.Lines.{AreLinesOf, AreRowLines, AreSizesAndRows, IsRowLine, IsSizeLine};
 
 use drg_array::{Array, Claim};

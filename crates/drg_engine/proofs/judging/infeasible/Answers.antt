@@ -22,4 +22,4 @@ returns c = λ tests first.
     let answer = c.acceptance_law.ensures (of_parts a claim lines) c.d.ensures.array c.requires.fails c.requires.made c.in_ok-lines.ensures in
     subst (λ δ. IsInfeasible a tests claim c.class.result δ c.new-2.result) (sym parts)
     (infeasible c.condition_law.ensures.holds a c.counting_claims_law.ensures c.d.ensures.array claim c.class.result lines c.new-2.result
-    c.class.ensures c.in_ok-lines.ensures answer (c.new-2.ensures ∙ c.new.ensures.items) tests first)
+    c.class.ensures c.in_ok-lines.ensures answer (c.new-2.ensures ∙ c.new.ensures.items) c.requires.made tests first)

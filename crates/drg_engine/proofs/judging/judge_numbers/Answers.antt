@@ -21,5 +21,5 @@ returns-in-Some c =
 pub returns : goal.returns
 returns c =
     let a = c.args.array.now in
-    survivor c.condition_law.ensures.holds a c.args.tests.now c.in_ok-passed.passed c.args.numbers c.in_ok-passed.ensures.selection c.in_ok-passed.ensures.tests c.requires.numbers
+    survivor c.condition_law.ensures.holds a c.args.tests.now c.in_ok-passed.passed c.args.numbers c.in_ok-passed.ensures.selection c.in_ok-passed.ensures.tests c.requires.numbers c.requires.pass
     (none_fails a c.requires.entries c.requires.pass c.args.tests.now (c.in_default.ensures.none a c.d.ensures.array c.requires.numbers))
