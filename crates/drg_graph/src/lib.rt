@@ -6,8 +6,8 @@
 //!
 //! The functions below do nothing. Each carries a law as its clause, and calling it brings the law to a proof. The
 //! laws of distances exclude arrays by their entries; those of sizes and rows say that the numbers made from the
-//! entries are counts in every graph of the array; those of parity count pairs and triangles. At the end stand two
-//! graphs that pass a test of the definition, so that it isn't empty.
+//! entries are counts in every graph of the array; those of parity count pairs and triangles. At the end stand a test
+//! that is true exactly of the graphs of an array, and six graphs that pass it, so that the definition isn't empty.
 #![tactic(auto)]
 
 ghost use Rattle.drg_graph.specs.DistanceLaws.{AdjacentLaw, ShortestLaw, MetricLaw};
@@ -16,7 +16,8 @@ ghost use Rattle.drg_graph.specs.SizeLaws.{SpheresLaw, SizesLaw, VerticesLaw, Si
 ghost use Rattle.drg_graph.specs.RowLaws.{CountsLaw, RowsLaw, IntersectLaw};
 ghost use Rattle.drg_graph.specs.ParityLaws.{HandshakeLaw, InducedLaw, TrianglesLaw};
 ghost use Rattle.drg_graph.specs.NumberLaws.{SizesAreCounts, VertexCountIsCount, NumbersAreCounts, CountingClaimsLaw};
-ghost use Rattle.drg_graph.specs.Witness.{CheckLaw, PetersenLaw, HeptagonLaw};
+ghost use Rattle.drg_graph.specs.Witness.{CheckLaw, OneArrayLaw, PetersenLaw, HeptagonLaw};
+ghost use Rattle.drg_graph.specs.Witness.{EdgeLaw, CompleteLaw, OctahedronLaw, CubeLaw};
 
 /// Two numbers are adjacent exactly where they are different vertices and their pair stands in the list of edges, in
 /// one order or the other.
@@ -144,9 +145,14 @@ pub fn counting_claims_law()
     ensures { CountingClaimsLaw }
 {}
 
-/// A graph that passes the test of the definition belongs to the array.
+/// A graph is distance-regular with an array exactly where a test says so that goes over all ordered pairs of vertices.
 pub fn check_law()
     ensures { CheckLaw }
+{}
+
+/// A graph is distance-regular with one array at most.
+pub fn one_array_law()
+    ensures { OneArrayLaw }
 {}
 
 /// The Petersen graph belongs to `{3,2;1,1}`.
@@ -157,4 +163,24 @@ pub fn petersen_law()
 /// The heptagon belongs to `{2,1,1;1,1,1}`.
 pub fn heptagon_law()
     ensures { HeptagonLaw }
+{}
+
+/// The complete graph on two vertices belongs to `{1;1}`.
+pub fn edge_law()
+    ensures { EdgeLaw }
+{}
+
+/// The complete graph on four vertices belongs to `{3;1}`.
+pub fn complete_law()
+    ensures { CompleteLaw }
+{}
+
+/// The octahedron belongs to `{4,1;1,4}`.
+pub fn octahedron_law()
+    ensures { OctahedronLaw }
+{}
+
+/// The cube belongs to `{3,2,1;1,2,3}`.
+pub fn cube_law()
+    ensures { CubeLaw }
 {}
