@@ -2,7 +2,7 @@
 use Rattle.std.specs.Prelude.{◌≡◌, ⊤}
 use Rattle.drg_array.specs.Entries.{Entries}
 use Rattle.drg_array.specs.Claims.{test_of}
-use Rattle.drg_array.specs.Conditions.{Holds, Fails}
+use Rattle.drg_array.specs.Conditions.{CountsHold, CountsFail}
 use Rattle.drg_array.specs.declared.test.Test.{Test}
 use Rattle.drg_array.specs.declared.test.Test.TheVariants as test
 use Rattle.drg_array.specs.declared.claim.Claim.{Claim}
@@ -25,8 +25,8 @@ IsArrayTest test.Triple = ⊥
 IsArrayTest test.Ktriple = ⊥
 
 abbrev pub FailsWhereFalse : Type 0
-FailsWhereFalse = (a : Entries) (claim : Claim) → Fails a claim → Holds a (test_of claim) → ⊥
+FailsWhereFalse = (a : Entries) (claim : Claim) → CountsFail a claim → CountsHold a (test_of claim) → ⊥
 
 abbrev pub HoldsWhereNoneFails : Type 0
 HoldsWhereNoneFails =
-    (a : Entries) (t : Test) → IsArrayTest t → ((claim : Claim) → test_of claim ≡ t → Fails a claim → ⊥) → Holds a t
+    (a : Entries) (t : Test) → IsArrayTest t → ((claim : Claim) → test_of claim ≡ t → CountsFail a claim → ⊥) → CountsHold a t

@@ -3,7 +3,7 @@ use Rattle.std.specs.Prelude.{◌≡◌, pos, [], ◌∷◌}
 use Rattle.drg_algebra.specs.Rational.{whole}
 use Rattle.drg_array.specs.Entries.{Entries}
 use Rattle.drg_array.specs.Numbers.{size, vertex_count, IsIntersectionNumber}
-use Rattle.drg_array.specs.Conditions.{Fails}
+use Rattle.drg_array.specs.Conditions.{CountsFail}
 use Rattle.drg_array.specs.declared.claim.Claim.TheVariants.{Size, Intersect}
 
 -- the array of the Petersen graph, {3,2;1,1}
@@ -25,8 +25,8 @@ pub record PetersenNumbers : Type 0 where
 
 -- 20 / 3 isn't whole
 abbrev pub SizeOfFiveFour : Type 0
-SizeOfFiveFour = Fails (record { b = 5 ∷ 4 ∷ []; c = 1 ∷ 3 ∷ [] }) (Size 2)
+SizeOfFiveFour = CountsFail (record { b = 5 ∷ 4 ∷ []; c = 1 ∷ 3 ∷ [] }) (Size 2)
 
 -- p^2_22 of {4,1;1,2} is -2 / 2
 abbrev pub NumberOfFourOne : Type 0
-NumberOfFourOne = Fails (record { b = 4 ∷ 1 ∷ []; c = 1 ∷ 2 ∷ [] }) (Intersect 2 2 2)
+NumberOfFourOne = CountsFail (record { b = 4 ∷ 1 ∷ []; c = 1 ∷ 2 ∷ [] }) (Intersect 2 2 2)

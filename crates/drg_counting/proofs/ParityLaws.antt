@@ -6,7 +6,7 @@ use Rattle.drg_algebra.proofs.Maps.{whole_map}
 use Rattle.drg_algebra.proofs.Whole.{multiple-leaves-no-rest}
 use Rattle.drg_array.specs.Entries.{Entries, IsArray, diameter}
 use Rattle.drg_array.specs.Numbers.{size, vertex_count, IsIntersectionNumber, IsWholeMultiple}
-use Rattle.drg_array.specs.Conditions.{Fails, IsPlace}
+use Rattle.drg_array.specs.Conditions.{CountsFail, IsPlace}
 use Rattle.drg_array.specs.declared.test.Test.{Test}
 use Rattle.drg_array.specs.declared.test.Test.TheVariants as test
 use Rattle.drg_array.specs.declared.claim.Claim.{Claim}
@@ -14,7 +14,7 @@ use Rattle.drg_array.specs.declared.claim.Claim.TheVariants.{Handshake, Induced,
 use Rattle.drg_array.proofs.NumberLaws.{one_number}
 use Rattle.drg_intersection.specs.Numbers.{Numbers, AreNumbersOf, k_at, n_of, p_at}
 use Rattle.drg_intersection.proofs.Ranges.{one_whole}
-use Rattle.drg_counting.specs.ClaimOrder.{ComesBefore}
+use Rattle.drg_array.specs.ClaimOrder.{ComesBefore}
 use Rattle.drg_counting.specs.Parity.{IsSelectedParity, IsIndex, NumbersFail}
 use Rattle.drg_counting.proofs.ClaimLaws.{later_test, within, one_index, two_indices}
 
@@ -44,7 +44,7 @@ module _ (a : Entries) (numbers : Numbers) (array : IsArray a) (are : AreNumbers
   triangles : (i : ℕ) (x : ℚ) → i ≤ diameter a → IsIntersectionNumber a i i i x → times (vertex_count a) (times (size a i) x) ≡ whole (pos (n_of numbers * (k_at numbers i * p_at numbers i i i)))
   triangles i x top is = product_of _ _ (n_of numbers) (k_at numbers i * p_at numbers i i i) are.vertices (induced i i x top top is)
 
-  pub fails_of : (claim : Claim) → NumbersFail numbers claim → Fails a claim
+  pub fails_of : (claim : Claim) → NumbersFail numbers claim → CountsFail a claim
   fails_of (Handshake i) (at, rest) = (let here = place i at in (here, no_multiple 2 _ _ (omega arith) (handshake i here.1) rest))
   fails_of (Induced i j) (at, right, rest) =
       let here = place i at in
@@ -57,7 +57,7 @@ module _ (a : Entries) (numbers : Numbers) (array : IsArray a) (are : AreNumbers
       (here, _, is, no_multiple 6 _ _ (omega arith) (triangles i _ here.1 is) rest)
   fails_of claim failed = absurd failed
 
-  pub fails_back : (tests : List Test) (claim : Claim) → IsSelectedParity tests claim → Fails a claim → NumbersFail numbers claim
+  pub fails_back : (tests : List Test) (claim : Claim) → IsSelectedParity tests claim → CountsFail a claim → NumbersFail numbers claim
   fails_back tests (Handshake i) selected (at, failed) = (index i at, rest_of 2 _ _ (omega arith) (handshake i at.1) failed)
   fails_back tests (Induced i j) selected (at, right, x, is, failed) = (index i at, index j right, rest_of 2 _ _ (omega arith) (induced i j x at.1 right.1 is) failed)
   fails_back tests (Triangles i) selected (at, x, is, failed) = (index i at, rest_of 6 _ _ (omega arith) (triangles i x at.1 is) failed)

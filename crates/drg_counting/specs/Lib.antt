@@ -1,2 +1,2 @@
-pub mod ClaimOrder
+pub mod EntryTests
 pub mod Parity

@@ -5,7 +5,7 @@ use Rattle.drg_array.specs.declared.test.Test.{Test}
 use Rattle.drg_array.specs.declared.claim.Claim.{Claim}
 use Rattle.drg_array.specs.declared.claim.Claim.TheVariants.{Handshake, Induced, Triangles}
 use Rattle.drg_intersection.specs.Numbers.{Numbers, k_at, n_of, p_at}
-use Rattle.drg_counting.specs.ClaimOrder.{test_number}
+use Rattle.drg_array.specs.ClaimOrder.{test_number}
 
 -- a claim of one of these tests, which is selected
 abbrev pub IsSelectedParity : List Test → Claim → Type 0

@@ -1,13 +1,13 @@
 //! The tests on parity: handshake, induced and triangles.
 
 ghost use Rattle.std.specs.Prelude.{ℕ, ◌≡◌, ◌≤◌, ◌<◌, ◌*◌, ◌%◌, ◌↔◌, pos, Contains, IsTrue, IfSome, IfNone};
-ghost use Rattle.drg_array.specs.Conditions.{Fails};
+ghost use Rattle.drg_array.specs.Conditions.{CountsFail};
 ghost use Rattle.drg_array.specs.Entries.{Entries, IsArray};
 ghost use Rattle.drg_array.specs.declared.claim.Claim.{Claim as TheClaim};
 ghost use Rattle.drg_array.specs.declared.claim.Claim.TheVariants.{Handshake, Induced, Triangles};
 ghost use Rattle.drg_array.specs.declared.test.Test.TheVariants as test;
 ghost use Rattle.drg_intersection.specs.Numbers.{AreNumbersOf};
-ghost use Rattle.drg_counting.specs.ClaimOrder.{ComesBefore};
+ghost use Rattle.drg_array.specs.ClaimOrder.{ComesBefore};
 ghost use Rattle.drg_counting.specs.Parity.{IsIndex, IsSelectedParity, NumbersFail};
 
 use drg_array::{Claim, Test, TestSet};
@@ -24,11 +24,11 @@ struct Pair {
 /// with these numbers. It works by remainders, so no product can be too wide.
 pub fn parity(numbers: &Numbers, tests: &TestSet) -> Option<Claim>
     ensures selected { IfSome result (IsSelectedParity tests.now) }
-    ensures fails { IfSome result (λ claim. (a : Entries) → IsArray a → AreNumbersOf a numbers.now → Fails a claim) }
+    ensures fails { IfSome result (λ claim. (a : Entries) → IsArray a → AreNumbersOf a numbers.now → CountsFail a claim) }
     ensures first { IfSome result (λ claim. (a : Entries) → IsArray a → AreNumbersOf a numbers.now →
-        (earlier : TheClaim) → IsSelectedParity tests.now earlier → ComesBefore earlier claim → Fails a earlier → ⊥) }
+        (earlier : TheClaim) → IsSelectedParity tests.now earlier → ComesBefore earlier claim → CountsFail a earlier → ⊥) }
     ensures none { IfNone result ((a : Entries) → IsArray a → AreNumbersOf a numbers.now →
-        (claim : TheClaim) → IsSelectedParity tests.now claim → Fails a claim → ⊥) }
+        (claim : TheClaim) → IsSelectedParity tests.now claim → CountsFail a claim → ⊥) }
 {
     if let Some(i) = selected_handshake(numbers, tests) {
         return Some(Claim::Handshake { i });

@@ -1,10 +1,11 @@
 //! The tests on the entries: first, degree, order and cross.
 ghost use Rattle.std.specs.Prelude.{ℕ, ◌<◌, ◌≤◌, ◌+◌, IfSome, IfNone};
-ghost use Rattle.drg_array.specs.Conditions.{Fails};
+ghost use Rattle.drg_array.specs.Conditions.{CountsFail};
 ghost use Rattle.drg_array.specs.Entries.{diameter};
 ghost use Rattle.drg_array.specs.declared.claim.Claim.{Claim};
 ghost use Rattle.drg_array.specs.declared.claim.Claim.TheVariants.{First, Degree, Order, Cross};
-ghost use Rattle.drg_counting.specs.ClaimOrder.{ComesBefore, IsBasic};
+ghost use Rattle.drg_array.specs.ClaimOrder.{ComesBefore};
+ghost use Rattle.drg_counting.specs.EntryTests.{IsBasic};
 
 use drg_array::{Array, Claim};
 
@@ -18,9 +19,9 @@ struct Crossing {
 /// The first failing claim of the tests first, degree, order and cross.
 pub fn basic(array: &Array) -> Option<Claim>
     ensures basic { IfSome result IsBasic }
-    ensures fails { IfSome result (Fails array.now) }
-    ensures first { IfSome result (λ claim. (earlier : Claim) → ComesBefore earlier claim → Fails array.now earlier → ⊥) }
-    ensures none { IfNone result ((claim : Claim) → IsBasic claim → Fails array.now claim → ⊥) }
+    ensures fails { IfSome result (CountsFail array.now) }
+    ensures first { IfSome result (λ claim. (earlier : Claim) → ComesBefore earlier claim → CountsFail array.now earlier → ⊥) }
+    ensures none { IfNone result ((claim : Claim) → IsBasic claim → CountsFail array.now claim → ⊥) }
 {
     let _ = array.d();
     if array.c(1) != 1 {
@@ -40,9 +41,9 @@ pub fn basic(array: &Array) -> Option<Claim>
 
 /// The first i with `a_i < 0`.
 fn first_degree(array: &Array) -> Option<u8>
-    ensures fails { IfSome result (λ i. Fails array.now (Degree i)) }
-    ensures first { IfSome result (λ i. (j : ℕ) → j < i → Fails array.now (Degree j) → ⊥) }
-    ensures none { IfNone result ((j : ℕ) → Fails array.now (Degree j) → ⊥) }
+    ensures fails { IfSome result (λ i. CountsFail array.now (Degree i)) }
+    ensures first { IfSome result (λ i. (j : ℕ) → j < i → CountsFail array.now (Degree j) → ⊥) }
+    ensures none { IfNone result ((j : ℕ) → CountsFail array.now (Degree j) → ⊥) }
 {
     'indices: for i in 1..array.d() + 1 {
         if array.a(i) < 0 {
@@ -54,9 +55,9 @@ fn first_degree(array: &Array) -> Option<u8>
 
 /// The first i with `b_i < b_(i+1)` or `c_i > c_(i+1)`.
 fn first_order(array: &Array) -> Option<u8>
-    ensures fails { IfSome result (λ i. Fails array.now (Order i)) }
-    ensures first { IfSome result (λ i. (j : ℕ) → j < i → Fails array.now (Order j) → ⊥) }
-    ensures none { IfNone result ((j : ℕ) → Fails array.now (Order j) → ⊥) }
+    ensures fails { IfSome result (λ i. CountsFail array.now (Order i)) }
+    ensures first { IfSome result (λ i. (j : ℕ) → j < i → CountsFail array.now (Order j) → ⊥) }
+    ensures none { IfNone result ((j : ℕ) → CountsFail array.now (Order j) → ⊥) }
 {
     'indices: for i in 1..array.d() {
         if array.b(i) < array.b(i + 1) || array.c(i) > array.c(i + 1) {
@@ -68,10 +69,10 @@ fn first_order(array: &Array) -> Option<u8>
 
 /// The first i and j with `i + j <= d` and `c_i > b_j`.
 fn first_cross(array: &Array) -> Option<Crossing>
-    ensures fails { IfSome result (λ at. Fails array.now (Cross at.i at.j)) }
-    ensures first { IfSome result (λ at. (i j : ℕ) → i < at.i → Fails array.now (Cross i j) → ⊥) }
-    ensures same { IfSome result (λ at. (j : ℕ) → j < at.j → Fails array.now (Cross at.i j) → ⊥) }
-    ensures none { IfNone result ((i j : ℕ) → Fails array.now (Cross i j) → ⊥) }
+    ensures fails { IfSome result (λ at. CountsFail array.now (Cross at.i at.j)) }
+    ensures first { IfSome result (λ at. (i j : ℕ) → i < at.i → CountsFail array.now (Cross i j) → ⊥) }
+    ensures same { IfSome result (λ at. (j : ℕ) → j < at.j → CountsFail array.now (Cross at.i j) → ⊥) }
+    ensures none { IfNone result ((i j : ℕ) → CountsFail array.now (Cross i j) → ⊥) }
 {
     'indices: for i in 1..array.d() + 1 {
         if let Some(j) = first_cross_at(array, i) {
@@ -85,9 +86,9 @@ fn first_cross(array: &Array) -> Option<Crossing>
 fn first_cross_at(array: &Array, i: usize) -> Option<u8>
     requires low { 1 ≤ i }
     requires high { i ≤ diameter array.now }
-    ensures fails { IfSome result (λ j. Fails array.now (Cross i j)) }
-    ensures first { IfSome result (λ j. (l : ℕ) → l < j → Fails array.now (Cross i l) → ⊥) }
-    ensures none { IfNone result ((l : ℕ) → Fails array.now (Cross i l) → ⊥) }
+    ensures fails { IfSome result (λ j. CountsFail array.now (Cross i j)) }
+    ensures first { IfSome result (λ j. (l : ℕ) → l < j → CountsFail array.now (Cross i l) → ⊥) }
+    ensures none { IfNone result ((l : ℕ) → CountsFail array.now (Cross i l) → ⊥) }
 {
     'indices: for j in 0..array.d() + 1 - i {
         if array.c(i) > array.b(j) {

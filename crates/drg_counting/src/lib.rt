@@ -1,7 +1,7 @@
 //! The feasibility tests on an intersection array that need counts alone. Each call gives the first
 //! failing claim of its tests, by their order and then by the lexicographic order of the indices, and
-//! None exactly where no claim of them fails. The order of claims is defined in specs/ClaimOrder.antt,
-//! and what it is to fail a claim in drg_array. The tests on parity are stated over whole numbers in
+//! None exactly where no claim of them fails. The order of claims and what it is to fail one are
+//! defined in drg_array. The tests on parity are stated over whole numbers in
 //! specs/Parity.antt.
 #![tactic(auto)]
 

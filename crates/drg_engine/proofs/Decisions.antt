@@ -2,7 +2,7 @@
 use Rattle.std.proofs.Common.{◌≡◌, ◌≤◌, List, [], ◌∷◌, Ok, refl, sym, ap, subst, ◌∙◌, arith, inl}
 use Rattle.drg_array.specs.Entries.{Entries, IsArray}
 use Rattle.drg_array.specs.Claims.{class_of, test_of}
-use Rattle.drg_array.specs.Conditions.{Fails, Holds}
+use Rattle.drg_array.specs.Conditions.{CountsFail, CountsHold}
 use Rattle.drg_array.specs.ConditionLaws.{FailsWhereFalse, HoldsWhereNoneFails}
 use Rattle.drg_array.specs.TestLists.{IsSelection}
 use Rattle.drg_array.specs.declared.claim.Claim.{Claim}
@@ -10,7 +10,7 @@ use Rattle.drg_array.specs.declared.claim.Class.{Class}
 use Rattle.drg_array.specs.declared.claim.Class.TheVariants.{Counting}
 use Rattle.drg_array.specs.declared.node.Node.{Node}
 use Rattle.drg_array.specs.declared.test.Test.{Test}
-use Rattle.drg_counting.specs.ClaimOrder.{test_number}
+use Rattle.drg_array.specs.ClaimOrder.{test_number}
 use Rattle.drg_derivation.specs.Content.{Content}
 use Rattle.drg_derivation.specs.declared.line.Line.{Line}
 use Rattle.drg_graph.specs.NumberLaws.{CountingClaimsLaw}
@@ -18,7 +18,7 @@ use Rattle.drg_intersection.specs.Faults.{AllPass, IsFirstWide, IsFault}
 use Rattle.drg_intersection.specs.Laws.{OneFault, NoFaultWhereAllPass}
 use Rattle.drg_intersection.specs.declared.fault.NumbersFault.TheVariants as fault
 use Rattle.drg_array.specs.declared.claim.Claim.TheVariants.{First, Degree, Order, Cross, Size, Intersect, Handshake, Induced, Triangles}
-use Rattle.drg_counting.specs.ClaimOrder.{IsBasic}
+use Rattle.drg_counting.specs.EntryTests.{IsBasic}
 use Rattle.drg_intersection.specs.Numbers.{Numbers, AreNumbersOf}
 use Rattle.drg_replay.specs.Answers.{answer_of}
 use Rattle.drg_report.specs.declared.verdict.Cause.TheVariants.{Wide}
@@ -38,7 +38,7 @@ of_parts a claim lines = record { array = a; claim = claim; lines = lines }
 
 module _ (law : HoldsWhereNoneFails) (a : Entries) where
   -- each test before that of the first failing claim holds
-  held_before : (tests : List Test) (claim : Claim) → IsFirstFailing a tests claim → (t : Test) → RunsBefore tests (test_of claim) t → Holds a t
+  held_before : (tests : List Test) (claim : Claim) → IsFirstFailing a tests claim → (t : Test) → RunsBefore tests (test_of claim) t → CountsHold a t
   held_before tests claim first t (runs, earlier) =
       let small = small_claim a claim first.fails in
       law a t (is_array_test t (omega (arith, earlier, small)))
@@ -59,7 +59,7 @@ module _ (law : HoldsWhereNoneFails) (a : Entries) where
 
   pub undecided : (tests passed : List Test) (pending : List Pending) (last : Test) (node : Node)
       → IsNodeOf last node → IsFirstWide a node → test_number last ≤ 9 → pending ≡ record { test = last; cause = Wide node } ∷ [] → AreTests (RunsBefore tests last) passed
-      → ((claim : Claim) → IsEarlier (test_of claim) last → Fails a claim → ⊥) → IsUndecided a tests passed pending
+      → ((claim : Claim) → IsEarlier (test_of claim) last → CountsFail a claim → ⊥) → IsUndecided a tests passed pending
   undecided tests passed pending last node part wide small entry are none = record {
     last = last;
     node = node;
@@ -72,7 +72,7 @@ module _ (law : HoldsWhereNoneFails) (a : Entries) where
   }
 
   pub survivor : (tests passed : List Test) (numbers : Numbers) → IsSelection tests → AreTests (Runs tests) passed → AreNumbersOf a numbers → AllPass a
-      → ((claim : Claim) → Runs tests (test_of claim) → Fails a claim → ⊥) → IsSurvivor a tests passed numbers
+      → ((claim : Claim) → Runs tests (test_of claim) → CountsFail a claim → ⊥) → IsSurvivor a tests passed numbers
   survivor tests passed numbers selection are numbers_of pass none = record {
     all_passed = are;
     held = λ t h. let runs = (are.members t).0 h in
@@ -87,7 +87,7 @@ decided false a tests (Undecided passed pending) none right = none right.node ri
 decided false a tests (Survivor passed numbers) none right = λ t runs. right.held t ((right.all_passed.members t).1 runs)
 
 module _ (one : OneFault) (none : NoFaultWhereAllPass) (a : Entries) (node : Node) (wide : IsFirstWide a node) where
-  no_claim : ((claim : Claim) → IsBasic claim → Fails a claim → ⊥) → (claim : Claim) → Fails a claim → AreMade a claim → ⊥
+  no_claim : ((claim : Claim) → IsBasic claim → CountsFail a claim → ⊥) → (claim : Claim) → CountsFail a claim → AreMade a claim → ⊥
   no_claim basic First fails made = basic First (omega arith) fails
   no_claim basic (Degree i) fails made = basic (Degree i) (omega arith) fails
   no_claim basic (Order i) fails made = basic (Order i) (omega arith) fails
@@ -103,7 +103,7 @@ module _ (one : OneFault) (none : NoFaultWhereAllPass) (a : Entries) (node : Nod
   no_claim basic (Triangles i) fails made = none a (fault.Wide node) (λ e. cc) made wide
   no_claim basic claim fails made = absurd fails
 
-  pub stays_open : (tests : List Test) (verdict : Verdict) → ((claim : Claim) → IsBasic claim → Fails a claim → ⊥) → VerdictHolds a tests verdict → IsOpen verdict
+  pub stays_open : (tests : List Test) (verdict : Verdict) → ((claim : Claim) → IsBasic claim → CountsFail a claim → ⊥) → VerdictHolds a tests verdict → IsOpen verdict
   stays_open tests (Infeasible claim class derivation pending) basic right = no_claim basic claim right.claimed.fails right.made
   stays_open tests (Undecided passed pending) basic right = tt
   stays_open tests (Survivor passed numbers) basic right = none a (fault.Wide node) (λ e. cc) right.pass wide

@@ -4,7 +4,7 @@ use Rattle.std.specs.Prelude.{ℤ, pos, slice_index_or, ◌==◌}
 use Rattle.std.proofs.lemmas.List.{get_or-take, get_or-drop, length-take, length-drop}
 use Rattle.drg_algebra.specs.Sums.{bit}
 use Rattle.drg_array.specs.Entries.{Entries}
-use Rattle.drg_array.specs.Conditions.{Fails}
+use Rattle.drg_array.specs.Conditions.{CountsFail}
 use Rattle.drg_array.specs.declared.claim.Claim.TheVariants.{Intersect}
 use Rattle.drg_derivation.specs.declared.line.Line.{Line}
 use Rattle.drg_engine.specs.Lines.{AreLinesOf, AreRowLines, IsRowLine}
@@ -41,7 +41,7 @@ pub items_push : (start rows before after : List Line) (line : Line) → before 
 items_push start rows before after line old new = new ∙ (ap (λ ls. ls ++ line ∷ []) old ∙ append_assoc start rows (line ∷ []))
 
 -- row 0 is whole, so the array fails intersect at a later row
-pub after_row_zero : (a : Entries) (h i j : ℕ) → Fails a (Intersect h i j) → 1 ≤ i
+pub after_row_zero : (a : Entries) (h i j : ℕ) → CountsFail a (Intersect h i j) → 1 ≤ i
 after_row_zero a h zero j (low, middle, high, x, (p, are, e), fails) = absurd (fails (bit (j == h), sym e ∙ are.start j high))
 after_row_zero a h (suc i) j fails = omega arith
 

@@ -7,7 +7,7 @@ use Rattle.drg_array.specs.ConditionLaws.{IsArrayTest}
 use Rattle.drg_array.specs.declared.test.Test.{Test}
 use Rattle.drg_array.specs.declared.test.Test.TheVariants.{First, Degree, Order, Cross, Size, Intersect, Handshake, Induced, Triangles, Mult, Krein, Absolute, Triple, Ktriple}
 use Rattle.drg_array.specs.declared.test_set.TheConstants.{BUILT}
-use Rattle.drg_counting.specs.ClaimOrder.{test_number}
+use Rattle.drg_array.specs.ClaimOrder.{test_number}
 use Rattle.drg_engine.specs.Verdicts.{Runs, IsEarlier, IsAscending, AreTests, RunsBefore}
 
 -- ---- a test has one number, from 1

@@ -5,7 +5,7 @@ use Rattle.std.specs.List.{AllByRecursion}
 use Rattle.std.proofs.lemmas.Int.{ints, unsigned_abs-mul}
 use Rattle.std.proofs.lemmas.List.{reverse-reverse}
 use Rattle.drg_array.specs.Entries.{Entries, IsArray, diameter, c_at}
-use Rattle.drg_array.specs.Conditions.{Fails}
+use Rattle.drg_array.specs.Conditions.{CountsFail}
 use Rattle.drg_array.specs.declared.claim.Claim.{Claim}
 use Rattle.drg_array.specs.declared.claim.Claim.TheVariants.{First, Degree, Order, Cross, Size, Intersect, Handshake, Induced, Triangles}
 use Rattle.drg_array.specs.declared.claim.Class.TheVariants.{Counting}
@@ -126,7 +126,7 @@ all_short a (Frame root ∷ lines) all = ((all.0, tt), all_short a lines all.1)
 all_short a (line ∷ lines) all = absurd all.0
 
 -- ---- the claim
-small : (a : Entries) (claim : Claim) → IsArray a → Fails a claim → IsClaim claim
+small : (a : Entries) (claim : Claim) → IsArray a → CountsFail a claim → IsClaim claim
 small a First array fails = tt
 small a (Degree i) array fails = let short = array.short in let h = fails.0.1 in (omega arith, tt)
 small a (Order i) array fails = let short = array.short in let h = fails.1 in (omega arith, tt)

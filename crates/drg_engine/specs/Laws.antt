@@ -2,14 +2,14 @@
 use Rattle.std.specs.Prelude.{◌≡◌, List, Ok}
 use Rattle.drg_array.specs.Entries.{Entries, IsArray}
 use Rattle.drg_array.specs.Claims.{test_of}
-use Rattle.drg_array.specs.Conditions.{Fails, Holds}
+use Rattle.drg_array.specs.Conditions.{CountsFail, CountsHold}
 use Rattle.drg_array.specs.declared.test.Test.{Test}
 use Rattle.drg_array.specs.declared.claim.Claim.{Claim}
 use Rattle.drg_array.specs.declared.claim.Class.TheVariants.{Counting}
 use Rattle.drg_array.specs.declared.node.Node.{Node}
 use Rattle.drg_derivation.specs.Content.{Content}
 use Rattle.drg_derivation.specs.Text.{HasText}
-use Rattle.drg_counting.specs.ClaimOrder.{IsBasic}
+use Rattle.drg_counting.specs.EntryTests.{IsBasic}
 use Rattle.drg_intersection.specs.Faults.{IsFirstWide}
 use Rattle.drg_replay.specs.Answers.{answer_of}
 use Rattle.drg_report.specs.declared.verdict.Verdict.{Verdict}
@@ -21,12 +21,12 @@ use Rattle.drg_engine.specs.Verdicts.{Runs, VerdictHolds}
 -- a derivation with the lines of its claim is accepted, where the array fails the claim and the numbers on which the claim
 -- rests are made
 abbrev pub AcceptanceLaw : Type 0
-AcceptanceLaw = (derivation : Content) → IsArray derivation.array → Fails derivation.array derivation.claim → AreMade derivation.array derivation.claim
+AcceptanceLaw = (derivation : Content) → IsArray derivation.array → CountsFail derivation.array derivation.claim → AreMade derivation.array derivation.claim
     → AreLinesOf derivation.array derivation.claim derivation.lines → answer_of derivation ≡ Ok Counting
 
 -- and it has a text
 abbrev pub TextLaw : Type 0
-TextLaw = (derivation : Content) → IsArray derivation.array → Fails derivation.array derivation.claim → AreMade derivation.array derivation.claim
+TextLaw = (derivation : Content) → IsArray derivation.array → CountsFail derivation.array derivation.claim → AreMade derivation.array derivation.claim
     → AreLinesOf derivation.array derivation.claim derivation.lines → HasText derivation
 
 -- no number is too wide whose formula is reached
@@ -35,9 +35,9 @@ NoneIsWide a = (node : Node) → IsFirstWide a node → ⊥
 
 -- what a verdict says then: infeasible where a test that runs doesn't hold, and a survivor where each holds
 abbrev pub IsDecided : Entries → List Test → Verdict → Type 0
-IsDecided a tests (Infeasible claim class derivation pending) = Runs tests (test_of claim) × ¬ Holds a (test_of claim)
+IsDecided a tests (Infeasible claim class derivation pending) = Runs tests (test_of claim) × ¬ CountsHold a (test_of claim)
 IsDecided a tests (Undecided passed pending) = ⊥
-IsDecided a tests (Survivor passed numbers) = (t : Test) → Runs tests t → Holds a t
+IsDecided a tests (Survivor passed numbers) = (t : Test) → Runs tests t → CountsHold a t
 
 -- where no number is too wide, a right verdict decides
 abbrev pub CompletenessLaw : Type 0
@@ -51,5 +51,5 @@ IsOpen (Survivor passed numbers) = ⊥
 
 -- where the tests on the entries hold and the first number that fails is too wide, a right verdict says so
 abbrev pub WideLaw : Type 0
-WideLaw = (a : Entries) (tests : List Test) (verdict : Verdict) (node : Node) → ((claim : Claim) → IsBasic claim → Fails a claim → ⊥) → IsFirstWide a node
+WideLaw = (a : Entries) (tests : List Test) (verdict : Verdict) (node : Node) → ((claim : Claim) → IsBasic claim → CountsFail a claim → ⊥) → IsFirstWide a node
     → VerdictHolds a tests verdict → IsOpen verdict

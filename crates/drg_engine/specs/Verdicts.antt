@@ -2,7 +2,7 @@
 use Rattle.std.specs.Prelude.{◌≡◌, ◌↔◌, ◌⊎◌, ◌<◌, List, [], ◌∷◌, Contains, Ok}
 use Rattle.drg_array.specs.Entries.{Entries}
 use Rattle.drg_array.specs.Claims.{class_of, test_of}
-use Rattle.drg_array.specs.Conditions.{Holds, Fails}
+use Rattle.drg_array.specs.Conditions.{CountsHold, CountsFail}
 use Rattle.drg_array.specs.TestLists.{IsAlwaysRun}
 use Rattle.drg_array.specs.declared.test.Test.{Test}
 use Rattle.drg_array.specs.declared.test.Test.TheVariants as test
@@ -11,7 +11,7 @@ use Rattle.drg_array.specs.declared.claim.Class.{Class}
 use Rattle.drg_array.specs.declared.claim.Class.TheVariants.{Counting}
 use Rattle.drg_array.specs.declared.node.Node.{Node}
 use Rattle.drg_array.specs.declared.node.Node.TheVariants.{K, N, P}
-use Rattle.drg_counting.specs.ClaimOrder.{ComesBefore, test_number}
+use Rattle.drg_array.specs.ClaimOrder.{ComesBefore, test_number}
 use Rattle.drg_derivation.specs.Content.{Content}
 use Rattle.drg_graph.specs.Graph.{NoGraph}
 use Rattle.drg_intersection.specs.Faults.{AllPass, IsFirstWide}
@@ -48,8 +48,8 @@ RunsBefore tests last t = Runs tests t × IsEarlier t last
 -- the array fails the claim, a claim of a test that runs, and no such claim that comes before it
 pub record IsFirstFailing (a : Entries) (tests : List Test) (claim : Claim) : Type 0 where
   pub runs : Runs tests (test_of claim)
-  pub fails : Fails a claim
-  pub first : (earlier : Claim) → ComesBefore earlier claim → Runs tests (test_of earlier) → Fails a earlier → ⊥
+  pub fails : CountsFail a claim
+  pub first : (earlier : Claim) → ComesBefore earlier claim → Runs tests (test_of earlier) → CountsFail a earlier → ⊥
 
 -- the derivation shows the claim, and is accepted with this class
 pub record Derives (a : Entries) (claim : Claim) (class : Class) (derivation : Content) : Type 0 where
@@ -70,7 +70,7 @@ pub record IsInfeasible (a : Entries) (tests : List Test) (claim : Claim) (class
   pub claimed : IsFirstFailing a tests claim
   -- each number before those that show it passes
   pub made : AreMade a claim
-  pub held : (t : Test) → RunsBefore tests (test_of claim) t → Holds a t
+  pub held : (t : Test) → RunsBefore tests (test_of claim) t → CountsHold a t
   pub same_class : class ≡ class_of claim
   pub derived : Derives a claim class derivation
   pub none_pending : pending ≡ []
@@ -85,12 +85,12 @@ pub record IsUndecided (a : Entries) (tests passed : List Test) (pending : List 
   pub wide : IsFirstWide a node
   pub entry : pending ≡ record { test = last; cause = Wide node } ∷ []
   pub all_passed : AreTests (RunsBefore tests last) passed
-  pub held : (t : Test) → Contains passed t → Holds a t
+  pub held : (t : Test) → Contains passed t → CountsHold a t
 
 -- Each test that runs holds, and these are the numbers of the array.
 pub record IsSurvivor (a : Entries) (tests passed : List Test) (numbers : Numbers) : Type 0 where
   pub all_passed : AreTests (Runs tests) passed
-  pub held : (t : Test) → Contains passed t → Holds a t
+  pub held : (t : Test) → Contains passed t → CountsHold a t
   pub numbers_of : AreNumbersOf a numbers
   pub pass : AllPass a
 

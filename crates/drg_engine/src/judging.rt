@@ -1,11 +1,11 @@
 //! The verdict on an array.
 
 ghost use Rattle.std.specs.Prelude.{◌≡◌, List, IfOk};
-ghost use Rattle.drg_array.specs.Conditions.{Fails};
+ghost use Rattle.drg_array.specs.Conditions.{CountsFail};
 ghost use Rattle.drg_array.specs.Entries.{Entries};
 ghost use Rattle.drg_array.specs.declared.test.Test.{Test as TheTest};
 ghost use Rattle.drg_array.specs.declared.claim.Claim.{Claim as TheClaim};
-ghost use Rattle.drg_counting.specs.ClaimOrder.{IsBasic};
+ghost use Rattle.drg_counting.specs.EntryTests.{IsBasic};
 ghost use Rattle.drg_intersection.specs.Faults.{AllPass, IsFirstWide, IsNode};
 ghost use Rattle.drg_intersection.specs.Numbers.{AreNumbersOf};
 ghost use Rattle.drg_engine.specs.Made.{AreMade};
@@ -45,7 +45,7 @@ fn judge_numbers(
     tests: &TestSet,
     numbers: Numbers,
 ) -> Result<Verdict, AllocError>
-    requires entries { (claim : TheClaim) → IsBasic claim → Fails array.now claim → ⊥ }
+    requires entries { (claim : TheClaim) → IsBasic claim → CountsFail array.now claim → ⊥ }
     requires numbers { AreNumbersOf array.now numbers }
     requires pass { AllPass array.now }
     ensures { IfOk result (VerdictHolds array.now tests.now) }
@@ -61,7 +61,7 @@ fn judge_numbers(
 
 /// The verdict on an array of which this is the first failing claim.
 fn infeasible(alloc: Global, array: &Array, claim: Claim) -> Result<Verdict, AllocError>
-    requires fails { Fails array.now claim }
+    requires fails { CountsFail array.now claim }
     requires made { AreMade array.now claim }
     ensures { IfOk result (λ verdict. (tests : List TheTest) →
         IsFirstFailing array.now tests claim → VerdictHolds array.now tests verdict) }
@@ -87,7 +87,7 @@ fn infeasible(alloc: Global, array: &Array, claim: Claim) -> Result<Verdict, All
 /// The verdict on an array with a number that is too wide, after others that pass.
 fn undecided(alloc: Global, tests: &TestSet, node: Node) -> Result<Verdict, AllocError>
     ensures { IfOk result (λ verdict. (a : Entries) →
-        ((claim : TheClaim) → IsBasic claim → Fails a claim → ⊥) →
+        ((claim : TheClaim) → IsBasic claim → CountsFail a claim → ⊥) →
         IsFirstWide a node → VerdictHolds a tests.now verdict) }
 {
     condition_law();

@@ -2,7 +2,7 @@
 
 ghost use Rattle.std.specs.Prelude.{◌≡◌, ◌≤◌, ◌<◌, ◌+◌, ◌-◌, ◌*◌, ℕ, suc, pos, List, [], ◌∷◌, ◌++◌, length, slice_index_or, IfOk, OnOk};
 ghost use Rattle.drg_algebra.specs.Rational.{whole};
-ghost use Rattle.drg_array.specs.Conditions.{Fails};
+ghost use Rattle.drg_array.specs.Conditions.{CountsFail};
 ghost use Rattle.drg_array.specs.Entries.{diameter};
 ghost use Rattle.drg_array.specs.Numbers.{IsIntersectionNumber};
 ghost use Rattle.drg_array.specs.declared.node.Node.TheVariants.{K, P};
@@ -18,7 +18,7 @@ use std::alloc::{AllocError, Global};
 
 /// The lines of a derivation of this claim, which the array fails.
 pub fn lines_of(alloc: Global, array: &Array, claim: Claim) -> Result<Vec<Line>, AllocError>
-    requires fails { Fails array.now claim }
+    requires fails { CountsFail array.now claim }
     requires made { AreMade array.now claim }
     ensures { IfOk result (λ lines. AreLinesOf array.now claim lines.items) }
 {

@@ -4,7 +4,7 @@ use Rattle.std.specs.Prelude.{◌≡◌, ℕ, ◌≤◌, pos, length, IsTrue}
 use Rattle.drg_algebra.specs.Rational.{ℚ, whole}
 use Rattle.drg_array.specs.Entries.{Entries, IsArray, diameter}
 use Rattle.drg_array.specs.Numbers.{size, vertex_count, IsIntersectionNumber}
-use Rattle.drg_array.specs.Conditions.{Fails}
+use Rattle.drg_array.specs.Conditions.{CountsFail}
 use Rattle.drg_array.specs.declared.claim.Claim.{Claim}
 use Rattle.drg_graph.specs.Graph.{Graph, is_vertex, HasDistance, sphere, pairs_at, IsDistanceRegular, NoGraph}
 
@@ -25,4 +25,4 @@ NumbersAreCounts =
 
 -- an array that fails a test of counts has no graph
 abbrev pub CountingClaimsLaw : Type 0
-CountingClaimsLaw = (a : Entries) (claim : Claim) → IsArray a → Fails a claim → NoGraph a
+CountingClaimsLaw = (a : Entries) (claim : Claim) → IsArray a → CountsFail a claim → NoGraph a

@@ -10,7 +10,7 @@ use Rattle.drg_algebra.proofs.Maps.{whole_map}
 use Rattle.drg_algebra.proofs.Tests.{decided, same-number, differ}
 use Rattle.drg_array.specs.Entries.{Entries, IsArray, diameter, b_at, c_at, a_at}
 use Rattle.drg_array.specs.Numbers.{before, numerator, AreIntersectionNumbers, IsIntersectionNumber, IsNatural}
-use Rattle.drg_array.specs.Conditions.{Fails}
+use Rattle.drg_array.specs.Conditions.{CountsFail}
 use Rattle.drg_array.specs.declared.node.Node.TheVariants.{P}
 use Rattle.drg_array.specs.declared.claim.Claim.TheVariants.{Intersect}
 use Rattle.drg_array.proofs.EntryLemmas.{c-positive, c-end}
@@ -116,10 +116,10 @@ module _ (a : Entries) (p : List ℤ) (h i j : ℕ) (array : IsArray a) (hh : h 
   pub right : (x : ℤ) → pos (c_at a (suc i)) *ℤ x ≡ made → pos 0 ≤ℤ x → (y : ℚ) → IsIntersectionNumber a h (suc i) j y → IsNatural y
   right x e above y is = subst IsNatural (one_number a h (suc i) j (whole x) y array hi hj (number x e) is) (natural x above)
 
-  pub negative : (x : ℤ) → pos (c_at a (suc i)) *ℤ x ≡ made → x <ℤ pos 0 → Fails a (Intersect h (suc i) j)
+  pub negative : (x : ℤ) → pos (c_at a (suc i)) *ℤ x ≡ made → x <ℤ pos 0 → CountsFail a (Intersect h (suc i) j)
   negative x e below = (hh, hi, hj, whole x, number x e, λ (m, f). (let same = one_whole x (pos m) f in omega (arith, ints, same, below)))
 
-  pub no_number : ((x : ℤ) → pos (c_at a (suc i)) *ℤ x ≡ made → ⊥) → Fails a (Intersect h (suc i) j)
+  pub no_number : ((x : ℤ) → pos (c_at a (suc i)) *ℤ x ≡ made → ⊥) → CountsFail a (Intersect h (suc i) j)
   no_number never =
       let (q, qs) = numbers_exist a h array in
       (hh, hi, hj, q (suc i) j, (q, qs, refl), λ (m, f). never (pos m) (one_whole _ _ (whole_map.times (pos (c_at a (suc i))) (pos m) ∙ (ap (times (whole (pos (c_at a (suc i))))) (sym f) ∙ meet q qs))))

@@ -3,7 +3,7 @@ use Rattle.std.specs.Prelude.{◌≡◌, ◌≤◌, ◌<◌, ◌⊎◌}
 use Rattle.drg_algebra.specs.Rational.{ℚ}
 use Rattle.drg_array.specs.Entries.{Entries, diameter}
 use Rattle.drg_array.specs.Numbers.{size, vertex_count, IsIntersectionNumber, IsWhole, IsNatural}
-use Rattle.drg_array.specs.Conditions.{Fails}
+use Rattle.drg_array.specs.Conditions.{CountsFail}
 use Rattle.drg_array.specs.declared.node.Node.{Node}
 use Rattle.drg_array.specs.declared.node.Node.TheVariants.{K, N, P}
 use Rattle.drg_array.specs.declared.claim.Claim.TheVariants.{Size, Intersect}
@@ -63,7 +63,7 @@ pub record IsFirstFall (a : Entries) (node : Node) (fails : Type 0) : Type 0 whe
 -- the cause of a fault
 abbrev pub IsFault : Entries → NumbersFault → Type 0
 IsFault a (Wide node) = IsFirstWide a node
-IsFault a (Fall (Size i)) = IsFirstFall a (K i) (Fails a (Size i))
-IsFault a (Fall (Intersect h i j)) = IsFirstFall a (P h i j) (Fails a (Intersect h i j))
+IsFault a (Fall (Size i)) = IsFirstFall a (K i) (CountsFail a (Size i))
+IsFault a (Fall (Intersect h i j)) = IsFirstFall a (P h i j) (CountsFail a (Intersect h i j))
 IsFault a (Fall claim) = ⊥
 IsFault a Memory = Unit {0}

@@ -1,7 +1,7 @@
 //! The numbers of an array.
 
 ghost use Rattle.std.specs.Prelude.{◌≡◌, ◌≤◌, ◌+◌, suc, pos, IfOk, IfErr};
-ghost use Rattle.drg_array.specs.Conditions.{Holds};
+ghost use Rattle.drg_array.specs.Conditions.{CountsHold};
 ghost use Rattle.drg_array.specs.declared.test.Test.TheVariants as test;
 ghost use Rattle.drg_intersection.specs.Faults.{AllPass, IsFault};
 ghost use Rattle.drg_intersection.specs.Numbers.{AreNumbersOf, k_at, n_of, p_at};
@@ -76,8 +76,8 @@ impl Numbers {
 pub fn numbers_of(alloc: Global, array: &Array) -> Result<Numbers, NumbersFault>
     ensures numbers { IfOk result (AreNumbersOf array.now) }
     ensures pass { IfOk result (λ numbers. AllPass array.now) }
-    ensures size { IfOk result (λ numbers. Holds array.now test.Size) }
-    ensures intersect { IfOk result (λ numbers. Holds array.now test.Intersect) }
+    ensures size { IfOk result (λ numbers. CountsHold array.now test.Size) }
+    ensures intersect { IfOk result (λ numbers. CountsHold array.now test.Intersect) }
     ensures fault { IfErr result (IsFault array.now) }
 {
     let k = sizes_of(alloc, array)?;

@@ -2,7 +2,7 @@
 use Rattle.std.specs.Prelude.{◌≡◌, ℕ, List, if◌then◌else◌, ◌==◌, ◌&&◌, ◌-◌, ⊤, nat_lt, length, take, slice_index}
 use Rattle.drg_array.specs.Entries.{Entries}
 use Rattle.drg_array.specs.Text.{IsArrayText}
-use Rattle.drg_array.specs.Conditions.{Holds}
+use Rattle.drg_array.specs.Conditions.{CountsHold}
 use Rattle.drg_array.specs.Faults.{IsFault}
 use Rattle.drg_array.specs.declared.fault.ArrayKind.{ArrayKind}
 use Rattle.drg_array.specs.declared.test.Test.{Test}
@@ -48,8 +48,8 @@ IsReadable (verdict.Survivor passed numbers) = ⊤
 
 -- what a status says where no number is too wide: some test that runs doesn't hold, or each holds
 abbrev pub IsDecidedAs : Entries → List Test → Status → Type 0
-IsDecidedAs a tests Infeasible = (t : Test) × Runs tests t × ¬ Holds a t
-IsDecidedAs a tests Survivor = (t : Test) → Runs tests t → Holds a t
+IsDecidedAs a tests Infeasible = (t : Test) × Runs tests t × ¬ CountsHold a t
+IsDecidedAs a tests Survivor = (t : Test) → Runs tests t → CountsHold a t
 IsDecidedAs a tests status = ⊥
 
 -- The status and the report of an array, where these tests are selected: those of a right verdict. What a right verdict says

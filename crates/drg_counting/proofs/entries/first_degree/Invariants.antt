@@ -1,7 +1,7 @@
 use Rattle.std.proofs.Common.{ℕ, ◌<◌}
-use Rattle.drg_array.specs.Conditions.{Fails}
+use Rattle.drg_array.specs.Conditions.{CountsFail}
 use Rattle.drg_array.specs.declared.claim.Claim.TheVariants.{Degree}
 use Rattle.drg_counting.proofs.entries.first_degree.Given as goal
 
 abbrev pub invariant-indices : goal.invariant-indices
-invariant-indices l = (j : ℕ) → j < l.i → Fails l.array (Degree j) → ⊥
+invariant-indices l = (j : ℕ) → j < l.i → CountsFail l.array (Degree j) → ⊥

@@ -1,10 +1,10 @@
 use Rattle.std.proofs.Common.{List, subst}
 use Rattle.std.proofs.lemmas.Result.{IfOk-weaker}
-use Rattle.drg_array.specs.Conditions.{Fails}
+use Rattle.drg_array.specs.Conditions.{CountsFail}
 use Rattle.drg_array.specs.Entries.{Entries}
 use Rattle.drg_array.specs.declared.claim.Claim.{Claim}
 use Rattle.drg_array.specs.declared.test.Test.{Test}
-use Rattle.drg_counting.specs.ClaimOrder.{IsBasic}
+use Rattle.drg_counting.specs.EntryTests.{IsBasic}
 use Rattle.drg_intersection.specs.Faults.{IsFault, IsFirstWide}
 use Rattle.drg_engine.specs.Verdicts.{IsFirstFailing, VerdictHolds}
 use Rattle.drg_engine.proofs.ClaimFacts.{basic_first, fall_first}
@@ -31,5 +31,5 @@ returns-in-Err-Wide c =
     let node = c.in-Err-Wide.node in
     let fault = subst (IsFault a) c.in-Err-Wide.field-0-is c.in-Err-Wide.ensures.fault in
     IfOk-weaker c.undecided.result
-    (λ verdict. (e : Entries) → ((claim : Claim) → IsBasic claim → Fails e claim → ⊥) → IsFirstWide e node → VerdictHolds e c.args.tests.now verdict)
+    (λ verdict. (e : Entries) → ((claim : Claim) → IsBasic claim → CountsFail e claim → ⊥) → IsFirstWide e node → VerdictHolds e c.args.tests.now verdict)
     (VerdictHolds a c.args.tests.now) (λ verdict right. right a c.in_default.ensures.none fault) c.undecided.ensures

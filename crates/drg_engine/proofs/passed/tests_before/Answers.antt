@@ -3,7 +3,7 @@ use Rattle.std.proofs.lemmas.Bool.{false≢true}
 use denote.Enum.Bare.{same_true, same_false}
 use Rattle.drg_array.specs.contracts.test.Test.{the_type}
 use Rattle.drg_array.specs.declared.test.Test.TheVariants.{First}
-use Rattle.drg_counting.specs.ClaimOrder.{test_number}
+use Rattle.drg_array.specs.ClaimOrder.{test_number}
 use Rattle.drg_engine.specs.Verdicts.{AreTests, RunsBefore}
 use Rattle.drg_engine.proofs.TestOrder.{RunsWithin, in_order, number_at, one_number, taken, left_out, before_next, before_all}
 use Rattle.drg_engine.proofs.passed.tests_before.Goals as goal

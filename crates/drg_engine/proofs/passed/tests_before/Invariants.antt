@@ -1,5 +1,5 @@
 use Rattle.std.proofs.Common.{◌<◌}
-use Rattle.drg_counting.specs.ClaimOrder.{test_number}
+use Rattle.drg_array.specs.ClaimOrder.{test_number}
 use Rattle.drg_engine.specs.Verdicts.{AreTests}
 use Rattle.drg_engine.proofs.TestOrder.{RunsWithin}
 use Rattle.drg_engine.proofs.passed.tests_before.Given as goal

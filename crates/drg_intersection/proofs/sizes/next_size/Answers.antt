@@ -6,7 +6,7 @@ use mir.Syntax.{w128}
 use Rattle.drg_algebra.specs.Rational.{whole}
 use Rattle.drg_array.specs.Entries.{b_at, c_at}
 use Rattle.drg_array.specs.Numbers.{IsWhole}
-use Rattle.drg_array.specs.Conditions.{Fails}
+use Rattle.drg_array.specs.Conditions.{CountsFail}
 use Rattle.drg_array.specs.declared.node.Node.TheVariants.{K}
 use Rattle.drg_array.specs.declared.claim.Claim.TheVariants.{Size}
 use Rattle.drg_intersection.specs.Faults.{IsFirstWide, IsFirstFall}
@@ -74,7 +74,7 @@ returns-in-None-clause-fault c =
     let fits : in_range (c.args.last *ℤ pos (b_at c.args.array.now c.args.i)) ≡ true = subst (λ z. in_range z ≡ true) (ap₂ (λ x y. x *ℤ y) last b) c.in-Some.ensures.0 in
     let failed = no_size a c.args.i c.args.last c.d-i_next.ensures.array c.requires.inside c.requires.size
     (λ q e. c.in-None.ensures.none q (ap (λ n. pos n *ℤ q) c_next ∙ (e ∙ sym product))) in
-    subst (λ n. IsFirstFall a (K n) (Fails a (Size n))) one (record {
+    subst (λ n. IsFirstFall a (K n) (CountsFail a (Size n))) one (record {
       is_node = omega (arith, c.requires.inside);
       reached = c.requires.reached;
       fits = range_in _ _ (dividend a c.args.i c.args.last c.d-i_next.ensures.array c.requires.inside c.requires.size) fits;

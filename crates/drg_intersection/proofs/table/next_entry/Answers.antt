@@ -6,7 +6,7 @@ use mir.Syntax.{w128}
 use Rattle.drg_algebra.specs.Rational.{whole}
 use Rattle.drg_array.specs.Entries.{c_at}
 use Rattle.drg_array.specs.Numbers.{IsIntersectionNumber}
-use Rattle.drg_array.specs.Conditions.{Fails}
+use Rattle.drg_array.specs.Conditions.{CountsFail}
 use Rattle.drg_array.specs.declared.node.Node.TheVariants.{P}
 use Rattle.drg_array.specs.declared.claim.Claim.TheVariants.{Intersect}
 use Rattle.drg_intersection.specs.Faults.{IsFirstWide, IsFirstFall}
@@ -70,7 +70,7 @@ returns-in_default-quotient-clause-fault c =
     let below : c.in-Some-quotient.x <ℤ pos 0 = grind (arith, ints, x, c.if-x-ge0.false) in
     let inside : sum_fits_from (pos 0) (products_of (balance c.args.array.now c.args.p.now c.args.h c.args.i c.args.j)) ≡ true =
     subst (λ b. sum_fits_from (pos 0) (products_of b) ≡ true) c.balance.ensures c.in-Some.ensures.0 in
-    subst (λ n. IsFirstFall c.args.array.now (P c.args.h n c.args.j) (Fails c.args.array.now (Intersect c.args.h n c.args.j))) one (record {
+    subst (λ n. IsFirstFall c.args.array.now (P c.args.h n c.args.j) (CountsFail c.args.array.now (Intersect c.args.h n c.args.j))) one (record {
       is_node = (c.requires.h, omega (arith, c.requires.i), c.requires.j);
       reached = c.requires.reached;
       fits = fits c.args.array.now c.args.p.now c.args.h c.args.i c.args.j c.d.ensures.array c.requires.h c.requires.i c.requires.j c.requires.length c.requires.entries inside;
@@ -84,7 +84,7 @@ returns-in_default-quotient-2-clause-fault c =
     let sum = to_z-of_z w128 c.in-Some.numerator (search rules) ∙ (c.in-Some.ensures.1 ∙ ap (λ b. sum_from (pos 0) (products_of b)) c.balance.ensures) in
     let inside : sum_fits_from (pos 0) (products_of (balance c.args.array.now c.args.p.now c.args.h c.args.i c.args.j)) ≡ true =
     subst (λ b. sum_fits_from (pos 0) (products_of b) ≡ true) c.balance.ensures c.in-Some.ensures.0 in
-    subst (λ n. IsFirstFall c.args.array.now (P c.args.h n c.args.j) (Fails c.args.array.now (Intersect c.args.h n c.args.j))) one (record {
+    subst (λ n. IsFirstFall c.args.array.now (P c.args.h n c.args.j) (CountsFail c.args.array.now (Intersect c.args.h n c.args.j))) one (record {
       is_node = (c.requires.h, omega (arith, c.requires.i), c.requires.j);
       reached = c.requires.reached;
       fits = fits c.args.array.now c.args.p.now c.args.h c.args.i c.args.j c.d.ensures.array c.requires.h c.requires.i c.requires.j c.requires.length c.requires.entries inside;

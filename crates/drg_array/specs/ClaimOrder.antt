@@ -1,5 +1,5 @@
--- The order of the claims: by their tests, then by their indices.
-use Rattle.std.specs.Prelude.{◌≡◌, ℕ, ◌<◌, ◌≤◌, ◌⊎◌, List, [], ◌∷◌}
+-- The order of the claims: by their numbers, then by their indices.
+use Rattle.std.specs.Prelude.{◌≡◌, ℕ, ◌<◌, ◌⊎◌, List, [], ◌∷◌}
 use Rattle.drg_array.specs.Claims.{test_of, indices_of}
 use Rattle.drg_array.specs.declared.test.Test.{Test}
 use Rattle.drg_array.specs.declared.test.Test.TheVariants.{First, Degree, Order, Cross, Size, Intersect, Handshake, Induced, Triangles, Mult, Krein, Absolute, Triple, Ktriple}
@@ -22,6 +22,14 @@ test_number Absolute = 12
 test_number Triple = 13
 test_number Ktriple = 14
 
+-- the claim is one of this test
+abbrev pub IsClaimOf : Test → Claim → Type 0
+IsClaimOf t claim = test_of claim ≡ t
+
+-- the place of the claim in the order of claims: the number of its test
+abbrev pub claim_number : Claim → ℕ
+claim_number claim = test_number (test_of claim)
+
 -- the lexicographic order of lists of numbers
 abbrev pub IsBefore : List ℕ → List ℕ → Type 0
 IsBefore ms [] = ⊥
@@ -30,8 +38,5 @@ IsBefore (m ∷ ms) (n ∷ ns) = (m < n) ⊎ ((m ≡ n) × IsBefore ms ns)
 
 -- a claim of an earlier test, or of the same test at earlier indices
 abbrev pub ComesBefore : Claim → Claim → Type 0
-ComesBefore earlier claim = IsBefore (test_number (test_of earlier) ∷ indices_of earlier) (test_number (test_of claim) ∷ indices_of claim)
-
--- a claim of one of the tests on the entries alone: first, degree, order and cross
-abbrev pub IsBasic : Claim → Type 0
-IsBasic claim = test_number (test_of claim) ≤ 4
+ComesBefore earlier claim =
+    IsBefore (claim_number earlier ∷ indices_of earlier) (claim_number claim ∷ indices_of claim)
