@@ -22,13 +22,15 @@ use Rattle.drg_counting.specs.EntryTests.{IsBasic}
 use Rattle.drg_intersection.specs.Numbers.{Numbers, AreNumbersOf}
 use Rattle.drg_replay.specs.Answers.{answer_of}
 use Rattle.drg_report.specs.declared.verdict.Cause.TheVariants.{Wide}
-use Rattle.drg_report.specs.declared.verdict.Pending.{Pending}
 use Rattle.drg_report.specs.declared.verdict.Verdict.{Verdict}
-use Rattle.drg_report.specs.declared.verdict.Verdict.TheVariants.{Infeasible, Undecided, Survivor}
+use Rattle.drg_report.specs.declared.verdict.Infeasible.{Infeasible}
+use Rattle.drg_report.specs.declared.verdict.Undecided.{Undecided}
+use Rattle.drg_report.specs.declared.verdict.Survivor.{Survivor}
+use Rattle.drg_report.specs.declared.verdict.Verdict.TheVariants as verdict
 use Rattle.drg_engine.specs.Laws.{IsDecided, IsOpen, NoneIsWide}
 use Rattle.drg_engine.specs.Made.{AreMade}
 use Rattle.drg_engine.specs.Lines.{AreLinesOf}
-use Rattle.drg_engine.specs.Verdicts.{AreTests, IsEarlier, IsFirstFailing, IsInfeasible, IsNodeOf, IsSurvivor, IsUndecided, Runs, RunsBefore, VerdictHolds}
+use Rattle.drg_engine.specs.Verdicts.{AreTests, Derives, IsEarlier, IsFirstFailing, IsInfeasible, IsNodeOf, IsSurvivor, IsUndecided, Runs, RunsBefore, VerdictHolds}
 use Rattle.drg_engine.proofs.ClaimFacts.{counting_claim, small_claim}
 use Rattle.drg_engine.proofs.TestOrder.{is_array_test, runs_small}
 
@@ -45,22 +47,24 @@ module _ (law : HoldsWhereNoneFails) (a : Entries) where
       (λ other same fails. first.first other (inl (subst (λ u. IsEarlier u (test_of claim)) (sym same) earlier)) (subst (Runs tests) (sym same) runs) fails)
 
   module _ (graph : CountingClaimsLaw) (array : IsArray a) where
-    pub infeasible : (claim : Claim) (class : Class) (lines : List Line) (pending : List Pending) → class ≡ class_of claim → AreLinesOf a claim lines
-        → answer_of (of_parts a claim lines) ≡ Ok Counting → pending ≡ [] → AreMade a claim → (tests : List Test) → IsFirstFailing a tests claim → IsInfeasible a tests claim class (of_parts a claim lines) pending
-    infeasible claim class lines pending same are answer none made tests first = record {
+    pub infeasible : (found : Infeasible) (lines : List Line) → found.derivation ≡ of_parts a found.claim lines → found.class ≡ class_of found.claim
+        → AreLinesOf a found.claim lines → answer_of (of_parts a found.claim lines) ≡ Ok Counting → found.pending ≡ [] → AreMade a found.claim
+        → (tests : List Test) → IsFirstFailing a tests found.claim → IsInfeasible a tests found
+    infeasible found lines parts same are answer none made tests first = record {
       claimed = first;
       made = made;
-      held = held_before tests claim first;
+      held = held_before tests found.claim first;
       same_class = same;
-      derived = record { same_array = refl; same_claim = refl; lines = are; accepted = answer ∙ ap Ok (sym (same ∙ counting_claim a claim first.fails)) };
+      derived = subst (Derives a found.claim found.class) (sym parts)
+          (record { same_array = refl; same_claim = refl; lines = are; accepted = answer ∙ ap Ok (sym (same ∙ counting_claim a found.claim first.fails)) });
       none_pending = none;
-      graph = λ counting. graph a claim array first.fails;
+      graph = λ counting. graph a found.claim array first.fails;
     }
 
-  pub undecided : (tests passed : List Test) (pending : List Pending) (last : Test) (node : Node)
-      → IsNodeOf last node → IsFirstWide a node → test_number last ≤ 9 → pending ≡ record { test = last; cause = Wide node } ∷ [] → AreTests (RunsBefore tests last) passed
-      → ((claim : Claim) → IsEarlier (test_of claim) last → CountsFail a claim → ⊥) → IsUndecided a tests passed pending
-  undecided tests passed pending last node part wide small entry are none = record {
+  pub undecided : (tests : List Test) (found : Undecided) (last : Test) (node : Node)
+      → IsNodeOf last node → IsFirstWide a node → test_number last ≤ 9 → found.pending ≡ record { test = last; cause = Wide node } ∷ []
+      → AreTests (RunsBefore tests last) found.passed → ((claim : Claim) → IsEarlier (test_of claim) last → CountsFail a claim → ⊥) → IsUndecided a tests found
+  undecided tests found last node part wide small entry are none = record {
     last = last;
     node = node;
     part = part;
@@ -71,9 +75,9 @@ module _ (law : HoldsWhereNoneFails) (a : Entries) where
         law a t (is_array_test t (omega (arith, runs.1, small))) (λ claim same fails. none claim (subst (λ u. IsEarlier u last) (sym same) runs.1) fails);
   }
 
-  pub survivor : (tests passed : List Test) (numbers : Numbers) → IsSelection tests → AreTests (Runs tests) passed → AreNumbersOf a numbers → AllPass a
-      → ((claim : Claim) → Runs tests (test_of claim) → CountsFail a claim → ⊥) → IsSurvivor a tests passed numbers
-  survivor tests passed numbers selection are numbers_of pass none = record {
+  pub survivor : (tests : List Test) (found : Survivor) → IsSelection tests → AreTests (Runs tests) found.passed → AreNumbersOf a found.numbers → AllPass a
+      → ((claim : Claim) → Runs tests (test_of claim) → CountsFail a claim → ⊥) → IsSurvivor a tests found
+  survivor tests found selection are numbers_of pass none = record {
     all_passed = are;
     held = λ t h. let runs = (are.members t).0 h in
         law a t (is_array_test t (runs_small tests t selection runs)) (λ claim same fails. none claim (subst (Runs tests) (sym same) runs) fails);
@@ -82,9 +86,9 @@ module _ (law : HoldsWhereNoneFails) (a : Entries) where
   }
 
 pub decided : FailsWhereFalse → (a : Entries) (tests : List Test) (verdict : Verdict) → NoneIsWide a → VerdictHolds a tests verdict → IsDecided a tests verdict
-decided false a tests (Infeasible claim class derivation pending) none right = (right.claimed.runs, false a claim right.claimed.fails)
-decided false a tests (Undecided passed pending) none right = none right.node right.wide
-decided false a tests (Survivor passed numbers) none right = λ t runs. right.held t ((right.all_passed.members t).1 runs)
+decided false a tests (verdict.Infeasible found) none right = (right.claimed.runs, false a found.claim right.claimed.fails)
+decided false a tests (verdict.Undecided found) none right = none right.node right.wide
+decided false a tests (verdict.Survivor found) none right = λ t runs. right.held t ((right.all_passed.members t).1 runs)
 
 module _ (one : OneFault) (none : NoFaultWhereAllPass) (a : Entries) (node : Node) (wide : IsFirstWide a node) where
   no_claim : ((claim : Claim) → IsBasic claim → CountsFail a claim → ⊥) → (claim : Claim) → CountsFail a claim → AreMade a claim → ⊥
@@ -104,6 +108,6 @@ module _ (one : OneFault) (none : NoFaultWhereAllPass) (a : Entries) (node : Nod
   no_claim basic claim fails made = absurd fails
 
   pub stays_open : (tests : List Test) (verdict : Verdict) → ((claim : Claim) → IsBasic claim → CountsFail a claim → ⊥) → VerdictHolds a tests verdict → IsOpen verdict
-  stays_open tests (Infeasible claim class derivation pending) basic right = no_claim basic claim right.claimed.fails right.made
-  stays_open tests (Undecided passed pending) basic right = tt
-  stays_open tests (Survivor passed numbers) basic right = none a (fault.Wide node) (λ e. cc) right.pass wide
+  stays_open tests (verdict.Infeasible found) basic right = no_claim basic found.claim right.claimed.fails right.made
+  stays_open tests (verdict.Undecided found) basic right = tt
+  stays_open tests (verdict.Survivor found) basic right = none a (fault.Wide node) (λ e. cc) right.pass wide

@@ -35,9 +35,9 @@ NoneIsWide a = (node : Node) → IsFirstWide a node → ⊥
 
 -- what a verdict says then: infeasible where a test that runs doesn't hold, and a survivor where each holds
 abbrev pub IsDecided : Entries → List Test → Verdict → Type 0
-IsDecided a tests (Infeasible claim class derivation pending) = Runs tests (test_of claim) × ¬ CountsHold a (test_of claim)
-IsDecided a tests (Undecided passed pending) = ⊥
-IsDecided a tests (Survivor passed numbers) = (t : Test) → Runs tests t → CountsHold a t
+IsDecided a tests (Infeasible found) = Runs tests (test_of found.claim) × ¬ CountsHold a (test_of found.claim)
+IsDecided a tests (Undecided found) = ⊥
+IsDecided a tests (Survivor found) = (t : Test) → Runs tests t → CountsHold a t
 
 -- where no number is too wide, a right verdict decides
 abbrev pub CompletenessLaw : Type 0
@@ -45,9 +45,9 @@ CompletenessLaw = (a : Entries) (tests : List Test) (verdict : Verdict) → None
 
 -- the verdict is that a number is too wide
 abbrev pub IsOpen : Verdict → Type 0
-IsOpen (Infeasible claim class derivation pending) = ⊥
-IsOpen (Undecided passed pending) = Unit {0}
-IsOpen (Survivor passed numbers) = ⊥
+IsOpen (Infeasible found) = ⊥
+IsOpen (Undecided found) = Unit {0}
+IsOpen (Survivor found) = ⊥
 
 -- where the tests on the entries hold and the first number that fails is too wide, a right verdict says so
 abbrev pub WideLaw : Type 0

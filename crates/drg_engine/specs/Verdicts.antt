@@ -19,8 +19,11 @@ use Rattle.drg_intersection.specs.Numbers.{Numbers, AreNumbersOf}
 use Rattle.drg_replay.specs.Answers.{answer_of}
 use Rattle.drg_report.specs.declared.verdict.Cause.TheVariants.{Wide}
 use Rattle.drg_report.specs.declared.verdict.Pending.{Pending}
+use Rattle.drg_report.specs.declared.verdict.Infeasible.{Infeasible}
+use Rattle.drg_report.specs.declared.verdict.Undecided.{Undecided}
+use Rattle.drg_report.specs.declared.verdict.Survivor.{Survivor}
 use Rattle.drg_report.specs.declared.verdict.Verdict.{Verdict}
-use Rattle.drg_report.specs.declared.verdict.Verdict.TheVariants.{Infeasible, Undecided, Survivor}
+use Rattle.drg_report.specs.declared.verdict.Verdict.TheVariants as verdict
 use Rattle.drg_engine.specs.Lines.{AreLinesOf}
 use Rattle.drg_engine.specs.Made.{AreMade}
 
@@ -66,36 +69,36 @@ IsNodeOf test.Intersect (P h i j) = Unit {0}
 IsNodeOf t node = ⊥
 
 -- The first failing claim of the tests that run, with its derivation; each earlier test holds.
-pub record IsInfeasible (a : Entries) (tests : List Test) (claim : Claim) (class : Class) (derivation : Content) (pending : List Pending) : Type 0 where
-  pub claimed : IsFirstFailing a tests claim
+pub record IsInfeasible (a : Entries) (tests : List Test) (found : Infeasible) : Type 0 where
+  pub claimed : IsFirstFailing a tests found.claim
   -- each number before those that show it passes
-  pub made : AreMade a claim
-  pub held : (t : Test) → RunsBefore tests (test_of claim) t → CountsHold a t
-  pub same_class : class ≡ class_of claim
-  pub derived : Derives a claim class derivation
-  pub none_pending : pending ≡ []
+  pub made : AreMade a found.claim
+  pub held : (t : Test) → RunsBefore tests (test_of found.claim) t → CountsHold a t
+  pub same_class : found.class ≡ class_of found.claim
+  pub derived : Derives a found.claim found.class found.derivation
+  pub none_pending : found.pending ≡ []
   -- what is derived by counting alone excludes every graph
-  pub graph : class ≡ Counting → NoGraph a
+  pub graph : found.class ≡ Counting → NoGraph a
 
 -- The first number that fails doesn't fit, so the test of which it is a part can't be decided, and no later test runs.
-pub record IsUndecided (a : Entries) (tests passed : List Test) (pending : List Pending) : Type 0 where
+pub record IsUndecided (a : Entries) (tests : List Test) (found : Undecided) : Type 0 where
   pub last : Test
   pub node : Node
   pub part : IsNodeOf last node
   pub wide : IsFirstWide a node
-  pub entry : pending ≡ record { test = last; cause = Wide node } ∷ []
-  pub all_passed : AreTests (RunsBefore tests last) passed
-  pub held : (t : Test) → Contains passed t → CountsHold a t
+  pub entry : found.pending ≡ record { test = last; cause = Wide node } ∷ []
+  pub all_passed : AreTests (RunsBefore tests last) found.passed
+  pub held : (t : Test) → Contains found.passed t → CountsHold a t
 
 -- Each test that runs holds, and these are the numbers of the array.
-pub record IsSurvivor (a : Entries) (tests passed : List Test) (numbers : Numbers) : Type 0 where
-  pub all_passed : AreTests (Runs tests) passed
-  pub held : (t : Test) → Contains passed t → CountsHold a t
-  pub numbers_of : AreNumbersOf a numbers
+pub record IsSurvivor (a : Entries) (tests : List Test) (found : Survivor) : Type 0 where
+  pub all_passed : AreTests (Runs tests) found.passed
+  pub held : (t : Test) → Contains found.passed t → CountsHold a t
+  pub numbers_of : AreNumbersOf a found.numbers
   pub pass : AllPass a
 
 -- The verdict is right for the array and the selected tests.
 abbrev pub VerdictHolds : Entries → List Test → Verdict → Type 0
-VerdictHolds a tests (Infeasible claim class derivation pending) = IsInfeasible a tests claim class derivation pending
-VerdictHolds a tests (Undecided passed pending) = IsUndecided a tests passed pending
-VerdictHolds a tests (Survivor passed numbers) = IsSurvivor a tests passed numbers
+VerdictHolds a tests (verdict.Infeasible found) = IsInfeasible a tests found
+VerdictHolds a tests (verdict.Undecided found) = IsUndecided a tests found
+VerdictHolds a tests (verdict.Survivor found) = IsSurvivor a tests found

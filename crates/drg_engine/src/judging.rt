@@ -19,7 +19,7 @@ use drg_counting::{basic, parity};
 use drg_derivation::Derivation;
 use drg_graph::counting_claims_law;
 use drg_intersection::{Numbers, NumbersFault, numbers_of};
-use drg_report::{Cause, Pending, PendingTests, Verdict};
+use drg_report::{Cause, Infeasible, Pending, PendingTests, Survivor, Undecided, Verdict};
 use std::alloc::{AllocError, Global};
 
 /// The verdict on the array, by the first six tests and those that are selected. They run in their
@@ -28,12 +28,12 @@ pub fn judge(alloc: Global, array: &Array, tests: &TestSet) -> Result<Verdict, A
     ensures { IfOk result (VerdictHolds array.now tests.now) }
 {
     if let Some(claim) = basic(array) {
-        return infeasible(alloc, array, claim);
+        return infeasible_by(alloc, array, claim);
     }
     match numbers_of(alloc, array) {
         Ok(numbers) => judge_numbers(alloc, array, tests, numbers),
-        Err(NumbersFault::Fall { claim }) => infeasible(alloc, array, claim),
-        Err(NumbersFault::Wide { node }) => undecided(alloc, tests, node),
+        Err(NumbersFault::Fall { claim }) => infeasible_by(alloc, array, claim),
+        Err(NumbersFault::Wide { node }) => undecided_by(alloc, tests, node),
         Err(NumbersFault::Memory) => Err(AllocError),
     }
 }
@@ -53,14 +53,14 @@ fn judge_numbers(
     let _ = array.d();
     condition_law();
     if let Some(claim) = parity(&numbers, tests) {
-        return infeasible(alloc, array, claim);
+        return infeasible_by(alloc, array, claim);
     }
     let passed = all_tests(alloc, tests)?;
-    Ok(Verdict::Survivor { passed, numbers })
+    Ok(Verdict::Survivor(Survivor { passed, numbers }))
 }
 
 /// The verdict on an array of which this is the first failing claim.
-fn infeasible(alloc: Global, array: &Array, claim: Claim) -> Result<Verdict, AllocError>
+fn infeasible_by(alloc: Global, array: &Array, claim: Claim) -> Result<Verdict, AllocError>
     requires fails { CountsFail array.now claim }
     requires made { AreMade array.now claim }
     ensures { IfOk result (λ verdict. (tests : List TheTest) →
@@ -76,16 +76,16 @@ fn infeasible(alloc: Global, array: &Array, claim: Claim) -> Result<Verdict, All
     let Some(derivation) = Derivation::make(array.copied(), claim, lines) else {
         unreachable!();
     };
-    Ok(Verdict::Infeasible {
+    Ok(Verdict::Infeasible(Infeasible {
         claim,
         class: claim.class(),
         derivation,
         pending: PendingTests::new(Vec::new(alloc)),
-    })
+    }))
 }
 
 /// The verdict on an array with a number that is too wide, after others that pass.
-fn undecided(alloc: Global, tests: &TestSet, node: Node) -> Result<Verdict, AllocError>
+fn undecided_by(alloc: Global, tests: &TestSet, node: Node) -> Result<Verdict, AllocError>
     ensures { IfOk result (λ verdict. (a : Entries) →
         ((claim : TheClaim) → IsBasic claim → CountsFail a claim → ⊥) →
         IsFirstWide a node → VerdictHolds a tests.now verdict) }
@@ -98,10 +98,10 @@ fn undecided(alloc: Global, tests: &TestSet, node: Node) -> Result<Verdict, Allo
         test,
         cause: Cause::Wide(node),
     })?;
-    Ok(Verdict::Undecided {
+    Ok(Verdict::Undecided(Undecided {
         passed,
         pending: PendingTests::new(pending),
-    })
+    }))
 }
 
 /// The test of which a size, the number of vertices or an intersection number is a part.

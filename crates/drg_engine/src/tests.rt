@@ -78,16 +78,11 @@ fn excludes_with_a_derivation(rt: HostRuntime) -> Result<(), Fail> {
         let mut text = Vec::new(rt.alloc());
         let verdict = judge(rt.alloc(), &array, &tests)?;
         match &verdict {
-            Verdict::Infeasible {
-                claim,
-                class,
-                derivation,
-                pending,
-            } => {
-                derivation.write_text(&mut text)?;
-                assert_eq!(rt; *claim, derivation.claim);
-                assert_eq!(rt; *class, Class::Counting);
-                assert!(rt; pending.as_slice().is_empty());
+            Verdict::Infeasible(found) => {
+                found.derivation.write_text(&mut text)?;
+                assert_eq!(rt; found.claim, found.derivation.claim);
+                assert_eq!(rt; found.class, Class::Counting);
+                assert!(rt; found.pending.as_slice().is_empty());
             }
             _ => assert!(rt; false, "{expected}"),
         }
@@ -114,10 +109,10 @@ fn passes_a_survivor(rt: HostRuntime) -> Result<(), Fail> {
         let tests = TestSet::read(names).expect(&rt, "a list of tests");
         let verdict = judge(rt.alloc(), &array, &tests)?;
         match &verdict {
-            Verdict::Survivor { passed, numbers } => {
-                let others = passed.as_slice().strip_prefix(ALWAYS.as_slice());
+            Verdict::Survivor(found) => {
+                let others = found.passed.as_slice().strip_prefix(ALWAYS.as_slice());
                 assert_eq!(rt; others, Some(selected), "{names}");
-                assert_eq!(rt; numbers.d(), 2);
+                assert_eq!(rt; found.numbers.d(), 2);
             }
             _ => assert!(rt; false, "{names}"),
         }
@@ -132,13 +127,13 @@ fn leaves_a_wide_number_open(rt: HostRuntime) -> Result<(), Fail> {
         b"{4095,4094,4094,4094,4094,4094,4094,4094,4094,4094,4094,4094;1,1,1,1,1,1,1,1,1,1,1,1}";
     let verdict = judge(rt.alloc(), &Array::read(array)?, &TestSet::all())?;
     match &verdict {
-        Verdict::Undecided { passed, pending } => {
+        Verdict::Undecided(found) => {
             let wide = Pending {
                 test: Test::Size,
                 cause: Cause::Wide(Node::K { i: 11 }),
             };
-            assert_eq!(rt; passed.as_slice(), &ALWAYS[..4]);
-            assert_eq!(rt; pending.as_slice(), [wide].as_slice());
+            assert_eq!(rt; found.passed.as_slice(), &ALWAYS[..4]);
+            assert_eq!(rt; found.pending.as_slice(), [wide].as_slice());
         }
         _ => assert!(rt; false),
     }

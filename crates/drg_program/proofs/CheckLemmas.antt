@@ -9,6 +9,6 @@ use Rattle.drg_engine.specs.Laws.{IsDecided}
 use Rattle.drg_program.specs.Check.{IsDecidedAs, status_of}
 
 pub decided_as : (a : Entries) (tests : List Test) (v : Verdict) → IsDecided a tests v → IsDecidedAs a tests (status_of v)
-decided_as a tests (verdict.Infeasible claim class derivation pending) h = (test_of claim, h.0, h.1)
-decided_as a tests (verdict.Undecided passed pending) h = h
-decided_as a tests (verdict.Survivor passed numbers) h = h
+decided_as a tests (verdict.Infeasible found) h = (test_of found.claim, h.0, h.1)
+decided_as a tests (verdict.Undecided found) h = h
+decided_as a tests (verdict.Survivor found) h = h

@@ -18,9 +18,9 @@ use Rattle.drg_program.specs.declared.status.Status.{Status}
 use Rattle.drg_program.specs.declared.status.Status.TheVariants.{Survivor, Infeasible, Accepted, Rejected, Undecided, Usage, BadInput, TooLong, OpenFault, ReadFault, WriteFault, Memory}
 
 judged : (verdict : Verdict) (tests : List Test) → IsVerdict (status_of verdict) (Check tests)
-judged (verdict.Infeasible claim class derivation pending) tests = tt
-judged (verdict.Undecided passed pending) tests = tt
-judged (verdict.Survivor passed numbers) tests = tt
+judged (verdict.Infeasible found) tests = tt
+judged (verdict.Undecided found) tests = tt
+judged (verdict.Survivor found) tests = tt
 
 told : (claim : Claim) (answer : Result Class ReplayFault) (status : Status) (text : List ℕ) → Tells claim answer status text → IsVerdict status Replay
 told claim (Ok class) status text h = subst (λ (s : Status). IsVerdict s Replay) (sym h.0) tt

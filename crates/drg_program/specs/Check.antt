@@ -36,15 +36,15 @@ IsFaultAt bytes at = HasNoArray bytes × (kind : ArrayKind) × IsFault (without_
 
 -- the status with which a verdict is told
 abbrev pub status_of : Verdict → Status
-status_of (verdict.Infeasible claim class derivation pending) = Infeasible
-status_of (verdict.Undecided passed pending) = Undecided
-status_of (verdict.Survivor passed numbers) = Survivor
+status_of (verdict.Infeasible found) = Infeasible
+status_of (verdict.Undecided found) = Undecided
+status_of (verdict.Survivor found) = Survivor
 
 -- the derivation of an infeasible array is written as a text that `replay` reads as this derivation
 abbrev pub IsReadable : Verdict → Type 0
-IsReadable (verdict.Infeasible claim class derivation pending) = IsDerivationText (derivation_text derivation) derivation
-IsReadable (verdict.Undecided passed pending) = ⊤
-IsReadable (verdict.Survivor passed numbers) = ⊤
+IsReadable (verdict.Infeasible found) = IsDerivationText (derivation_text found.derivation) found.derivation
+IsReadable (verdict.Undecided found) = ⊤
+IsReadable (verdict.Survivor found) = ⊤
 
 -- what a status says where no number is too wide: some test that runs doesn't hold, or each holds
 abbrev pub IsDecidedAs : Entries → List Test → Status → Type 0

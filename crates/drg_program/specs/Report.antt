@@ -2,14 +2,14 @@
 use Rattle.std.specs.Prelude.{ℕ, List, ◌++◌, codes, decimal}
 use Rattle.drg_array.specs.declared.claim.Claim.{Claim}
 use Rattle.drg_array.specs.declared.claim.Class.{Class}
-use Rattle.drg_report.specs.Texts.{claim_line}
+use Rattle.drg_report.specs.Words.{claim_words}
 
 -- these words, the number of a line, and a line end
 abbrev pub number_line : List ℕ → ℕ → List ℕ
 number_line words number = words ++ decimal number ++ codes "\n"
 
 abbrev pub accepted_text : Claim → Class → List ℕ
-accepted_text claim class = claim_line (codes "accepted ") claim class
+accepted_text claim class = codes "accepted " ++ claim_words claim class ++ codes "\n"
 
 -- a line that is not met
 abbrev pub rejected_text : ℕ → List ℕ

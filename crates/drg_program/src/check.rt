@@ -59,12 +59,12 @@ fn status_of(verdict: &Verdict) -> Status
     ensures readable { IsReadable verdict.now }
 {
     match verdict {
-        Verdict::Infeasible { derivation, .. } => {
-            see_text(derivation);
+        Verdict::Infeasible(found) => {
+            see_text(&found.derivation);
             Status::Infeasible
         }
-        Verdict::Undecided { .. } => Status::Undecided,
-        Verdict::Survivor { .. } => Status::Survivor,
+        Verdict::Undecided(_) => Status::Undecided,
+        Verdict::Survivor(_) => Status::Survivor,
     }
 }
 

@@ -4,7 +4,7 @@ ghost use Rattle.drg_program.specs.declared.report.ReportFault.TheVariants.{Memo
 
 use crate::Status;
 use drg_array::{Claim, Class};
-use drg_report::write_claim_line;
+use drg_report::write_claim_words;
 use itoa::Buffer;
 use std::alloc::AllocError;
 
@@ -34,7 +34,9 @@ impl From<AllocError> for ReportFault {
 pub fn write_accepted(claim: Claim, class: Class, out: &mut Vec<u8>) -> Result<(), AllocError>
     ensures { OnOk result (out.new.items ≡ out.old.items ++ accepted_text claim class) }
 {
-    write_claim_line(b"accepted ", claim, class, out)
+    out.extend_from_slice(b"accepted ")?;
+    write_claim_words(claim, class, out)?;
+    out.extend_from_slice(b"\n")
 }
 
 /// Appends the answer to a derivation with a line that is not met.

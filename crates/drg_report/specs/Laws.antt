@@ -7,9 +7,9 @@ use Rattle.drg_report.specs.declared.verdict.Verdict.TheVariants.{Infeasible, Un
 
 -- both are infeasible, both undecided, or both survivors
 abbrev pub HaveOneKind : Verdict → Verdict → Type 0
-HaveOneKind (Infeasible claim class derivation pending) (Infeasible other_claim other_class other_derivation other_pending) = Unit {0}
-HaveOneKind (Undecided passed pending) (Undecided other_passed other_pending) = Unit {0}
-HaveOneKind (Survivor passed numbers) (Survivor other_passed other_numbers) = Unit {0}
+HaveOneKind (Infeasible found) (Infeasible other) = Unit {0}
+HaveOneKind (Undecided found) (Undecided other) = Unit {0}
+HaveOneKind (Survivor found) (Survivor other) = Unit {0}
 HaveOneKind verdict other = ⊥
 
 -- reports with the same text have verdicts of one kind

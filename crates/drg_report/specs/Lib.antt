@@ -1,2 +1,3 @@
-pub mod Laws
+pub mod Words
 pub mod Texts
+pub mod Laws

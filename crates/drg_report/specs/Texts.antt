@@ -3,34 +3,26 @@ use Rattle.std.specs.Prelude.{ℕ, zero, suc, List, [], ◌∷◌, ◌++◌, cod
 use Rattle.std.specs.List.{flat_map}
 use Rattle.drg_array.specs.Entries.{Entries}
 use Rattle.drg_array.specs.Text.{array_text}
-use Rattle.drg_array.specs.Claims.{claim_text, class_name, test_name}
-use Rattle.drg_array.specs.Nodes.{node_text}
+use Rattle.drg_array.specs.Claims.{test_name}
 use Rattle.drg_array.specs.declared.test.Test.{Test}
-use Rattle.drg_array.specs.declared.claim.Claim.{Claim}
-use Rattle.drg_array.specs.declared.claim.Class.{Class}
 use Rattle.drg_derivation.specs.Text.{derivation_text}
 use Rattle.drg_intersection.specs.Numbers.{Numbers, k_at, n_of}
-use Rattle.drg_report.specs.declared.verdict.Cause.{Cause}
-use Rattle.drg_report.specs.declared.verdict.Cause.TheVariants.{Wide}
+use Rattle.drg_report.specs.Words.{pending_text, verdict_words}
 use Rattle.drg_report.specs.declared.verdict.Pending.{Pending}
 use Rattle.drg_report.specs.declared.verdict.Verdict.{Verdict}
 use Rattle.drg_report.specs.declared.verdict.Verdict.TheVariants.{Infeasible, Undecided, Survivor}
 
--- these words, the claim and its class, and a line end
-abbrev pub claim_line : List ℕ → Claim → Class → List ℕ
-claim_line words claim class = words ++ claim_text claim ++ codes " " ++ class_name class ++ codes "\n"
+-- what the verdict says in a few words
+abbrev pub verdict_line : Verdict → List ℕ
+verdict_line verdict = codes "verdict " ++ verdict_words verdict ++ codes "\n"
 
 -- the array, and the tests that ran and hold
 abbrev pub array_lines : Entries → List Test → List ℕ
 array_lines a passed = codes "array " ++ array_text a ++ codes "\npassed" ++ flat_map (λ t. 32 ∷ test_name t) passed ++ codes "\n"
 
--- why a test isn't decided: a number that is too wide
-abbrev pub cause_text : Cause → List ℕ
-cause_text (Wide node) = codes "wide " ++ node_text node
-
 -- a line for a test that isn't decided
 abbrev pub pending_line : Pending → List ℕ
-pending_line pending = codes "pending " ++ test_name pending.test ++ codes " " ++ cause_text pending.cause ++ codes "\n"
+pending_line entry = codes "pending " ++ pending_text entry ++ codes "\n"
 
 -- a line for each entry, in their order
 abbrev pub pending_lines : List Pending → List ℕ
@@ -48,7 +40,6 @@ numbers_lines numbers = codes "n " ++ decimal (n_of numbers) ++ codes "\nsizes" 
 -- The one text of a report. An infeasible array has its derivation first, so that a reader of derivations can read the
 -- report, and then the claim and its class. The others have the array and the tests that ran and hold.
 abbrev pub report_text : Entries → Verdict → List ℕ
-report_text a (Infeasible claim class derivation pending) =
-    derivation_text derivation ++ claim_line (codes "verdict infeasible ") claim class ++ pending_lines pending
-report_text a (Undecided passed pending) = codes "verdict undecided\n" ++ array_lines a passed ++ pending_lines pending
-report_text a (Survivor passed numbers) = codes "verdict survivor\n" ++ array_lines a passed ++ numbers_lines numbers
+report_text a (Infeasible found) = derivation_text found.derivation ++ verdict_line (Infeasible found) ++ pending_lines found.pending
+report_text a (Undecided found) = verdict_line (Undecided found) ++ array_lines a found.passed ++ pending_lines found.pending
+report_text a (Survivor found) = verdict_line (Survivor found) ++ array_lines a found.passed ++ numbers_lines found.numbers

@@ -1,19 +1,23 @@
 //! Verdicts on an intersection array, and their one text.
 //!
 //! A [`Verdict`] says what the tests that ran found: a failing claim with its derivation, numbers that are
-//! too wide to be computed, or a survivor with its numbers. [`render`] gives the text of its report, and
-//! [`write_claim_line`] the line of a claim, which stands in other answers too. The texts are defined in
-//! `specs/Texts.antt`, and `specs/Laws.antt` says what a text tells of its verdict. Whether a verdict is
-//! right isn't said here.
+//! too wide to be computed, or a survivor with its numbers. [`render`] gives the text of its report,
+//! [`verdict_words`] what it says in a few words, and [`write_claim_words`] those of a claim, which stand
+//! in other answers too. The words are defined in `specs/Words.antt`, the texts in `specs/Texts.antt`, and
+//! `specs/Laws.antt` says what a text tells of its verdict. Whether a verdict is right isn't said here.
 #![tactic(auto)]
 
 mod laws;
 mod report;
 mod verdict;
+mod words;
 
 pub use laws::kind_law;
-pub use report::{render, write_claim_line};
-pub use verdict::{Cause, PassedTests, Pending, PendingTests, Verdict};
+pub use report::render;
+pub use verdict::{
+    Cause, Infeasible, PassedTests, Pending, PendingTests, Survivor, Undecided, Verdict,
+};
+pub use words::{verdict_words, write_claim_words};
 
 #[cfg(test)]
 mod tests;

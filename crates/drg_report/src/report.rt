@@ -7,11 +7,11 @@
 ghost use Rattle.std.specs.Prelude.{◌≡◌, ◌∷◌, ◌++◌, suc, IfOk, OnOk};
 ghost use Rattle.std.specs.List.{flat_map};
 ghost use Rattle.drg_array.specs.Claims.{test_name};
-ghost use Rattle.drg_report.specs.Texts.{array_lines, cause_text, claim_line, numbers_lines, pending_line, pending_lines, report_text, sizes_text};
+ghost use Rattle.drg_report.specs.Texts.{array_lines, numbers_lines, pending_line, pending_lines, report_text, sizes_text, verdict_line};
 
-use crate::{Cause, Pending, Verdict};
-use drg_array::{Array, Claim, Class, Test};
-use drg_derivation::Derivation;
+use crate::words::{write_pending_text, write_verdict_words};
+use crate::{Pending, Verdict};
+use drg_array::{Array, Test};
 use drg_intersection::Numbers;
 use itoa::Buffer;
 use std::alloc::{AllocError, Global};
@@ -22,44 +22,31 @@ pub fn render(alloc: Global, array: &Array, verdict: &Verdict) -> Result<Vec<u8>
 {
     let mut text = Vec::new(alloc);
     match verdict {
-        Verdict::Infeasible {
-            claim,
-            class,
-            derivation,
-            pending,
-        } => {
-            derivation.write_text(&mut text)?;
-            write_claim_line(b"verdict infeasible ", *claim, *class, &mut text)?;
-            write_pending_lines(pending.as_slice(), &mut text)?;
+        Verdict::Infeasible(found) => {
+            found.derivation.write_text(&mut text)?;
+            write_verdict_line(verdict, &mut text)?;
+            write_pending_lines(found.pending.as_slice(), &mut text)?;
         }
-        Verdict::Undecided { passed, pending } => {
-            text.extend_from_slice(b"verdict undecided\n")?;
-            write_array_lines(array, passed.as_slice(), &mut text)?;
-            write_pending_lines(pending.as_slice(), &mut text)?;
+        Verdict::Undecided(found) => {
+            write_verdict_line(verdict, &mut text)?;
+            write_array_lines(array, found.passed.as_slice(), &mut text)?;
+            write_pending_lines(found.pending.as_slice(), &mut text)?;
         }
-        Verdict::Survivor { passed, numbers } => {
-            text.extend_from_slice(b"verdict survivor\n")?;
-            write_array_lines(array, passed.as_slice(), &mut text)?;
-            write_numbers_lines(numbers, &mut text)?;
+        Verdict::Survivor(found) => {
+            write_verdict_line(verdict, &mut text)?;
+            write_array_lines(array, found.passed.as_slice(), &mut text)?;
+            write_numbers_lines(&found.numbers, &mut text)?;
         }
     }
     Ok(text)
 }
 
-/// Appends these words, which end with a space, the claim, its class and a line end. After an error a
-/// part of it may be appended.
-pub fn write_claim_line(
-    words: &[u8],
-    claim: Claim,
-    class: Class,
-    out: &mut Vec<u8>,
-) -> Result<(), AllocError>
-    ensures { OnOk result (out.new.items ≡ out.old.items ++ claim_line words.now claim class) }
+/// Appends the line of the verdict.
+fn write_verdict_line(verdict: &Verdict, out: &mut Vec<u8>) -> Result<(), AllocError>
+    ensures { OnOk result (out.new.items ≡ out.old.items ++ verdict_line verdict.now) }
 {
-    out.extend_from_slice(words)?;
-    claim.write_text(out)?;
-    out.extend_from_slice(b" ")?;
-    out.extend_from_slice(class.name().as_bytes())?;
+    out.extend_from_slice(b"verdict ")?;
+    write_verdict_words(verdict, out)?;
     out.extend_from_slice(b"\n")
 }
 
@@ -96,26 +83,12 @@ fn write_pending_lines(pending: &[Pending], out: &mut Vec<u8>) -> Result<(), All
 }
 
 /// Appends the line of a test that isn't decided.
-fn write_pending_line(pending: &Pending, out: &mut Vec<u8>) -> Result<(), AllocError>
-    ensures { OnOk result (out.new.items ≡ out.old.items ++ pending_line pending.now) }
+fn write_pending_line(entry: &Pending, out: &mut Vec<u8>) -> Result<(), AllocError>
+    ensures { OnOk result (out.new.items ≡ out.old.items ++ pending_line entry.now) }
 {
     out.extend_from_slice(b"pending ")?;
-    pending.test.write_text(out)?;
-    out.extend_from_slice(b" ")?;
-    write_cause(&pending.cause, out)?;
+    write_pending_text(entry, out)?;
     out.extend_from_slice(b"\n")
-}
-
-/// Appends why a test isn't decided.
-fn write_cause(cause: &Cause, out: &mut Vec<u8>) -> Result<(), AllocError>
-    ensures { OnOk result (out.new.items ≡ out.old.items ++ cause_text cause.now) }
-{
-    match cause {
-        Cause::Wide(node) => {
-            out.extend_from_slice(b"wide ")?;
-            node.write_text(out)
-        }
-    }
 }
 
 /// Appends the line of the number of vertices, and the line of the sizes k_0 to k_d.

@@ -8,14 +8,14 @@ use drg_intersection::Numbers;
 use std::marker::Model;
 
 /// Why a test can't be decided.
-#[derive(Clone, Copy, Debug, PartialEq, Eq)]
+#[derive(Debug, PartialEq, Eq, Drop)]
 pub enum Cause {
     /// The formula of this number has a work number above 2^127 - 1 in magnitude.
     Wide(Node),
 }
 
 /// A test that isn't decided.
-#[derive(Clone, Copy, Debug, PartialEq, Eq)]
+#[derive(Debug, PartialEq, Eq, Drop)]
 pub struct Pending {
     pub test: Test,
     pub cause: Cause,
@@ -83,24 +83,34 @@ impl PendingTests {
     }
 }
 
+/// The array fails the claim, and the derivation shows it.
+#[derive(Drop)]
+pub struct Infeasible {
+    pub claim: Claim,
+    pub class: Class,
+    pub derivation: Derivation,
+    /// The tests before that of the claim that aren't decided.
+    pub pending: PendingTests,
+}
+
+/// No test is found false, and one can't be decided.
+#[derive(Drop)]
+pub struct Undecided {
+    pub passed: PassedTests,
+    pub pending: PendingTests,
+}
+
+/// Every test that ran holds. It isn't said that the array has a graph.
+#[derive(Drop)]
+pub struct Survivor {
+    pub passed: PassedTests,
+    pub numbers: Numbers,
+}
+
 /// What the tests found in an array.
 #[derive(Drop)]
 pub enum Verdict {
-    /// The array fails the claim, and the derivation shows it.
-    Infeasible {
-        claim: Claim,
-        class: Class,
-        derivation: Derivation,
-        pending: PendingTests,
-    },
-    /// No test is found false, and one can't be decided.
-    Undecided {
-        passed: PassedTests,
-        pending: PendingTests,
-    },
-    /// Every test that ran holds. It isn't said that the array has a graph.
-    Survivor {
-        passed: PassedTests,
-        numbers: Numbers,
-    },
+    Infeasible(Infeasible),
+    Undecided(Undecided),
+    Survivor(Survivor),
 }

@@ -13,13 +13,13 @@ returns-in-Some c =
     let says = c.in-Some.ensures in
     let array = c.d.ensures.array in
     let numbers = c.requires.numbers in
-    IfOk-weaker c.infeasible.result (λ verdict. (tests : List Test) → IsFirstFailing a tests claim → VerdictHolds a tests verdict) (VerdictHolds a c.args.tests.now)
+    IfOk-weaker c.infeasible_by.result (λ verdict. (tests : List Test) → IsFirstFailing a tests claim → VerdictHolds a tests verdict) (VerdictHolds a c.args.tests.now)
     (λ verdict right. right c.args.tests.now
     (parity_first a c.requires.entries c.requires.pass c.args.tests.now claim says.selected (says.fails a array numbers) (says.first a array numbers)))
-    c.infeasible.ensures
+    c.infeasible_by.ensures
 
 pub returns : goal.returns
 returns c =
     let a = c.args.array.now in
-    survivor c.condition_law.ensures.holds a c.args.tests.now c.in_ok-passed.passed c.args.numbers c.in_ok-passed.ensures.selection c.in_ok-passed.ensures.tests c.requires.numbers c.requires.pass
+    survivor c.condition_law.ensures.holds a c.args.tests.now _ c.in_ok-passed.ensures.selection c.in_ok-passed.ensures.tests c.requires.numbers c.requires.pass
     (none_fails a c.requires.entries c.requires.pass c.args.tests.now (c.in_default.ensures.none a c.d.ensures.array c.requires.numbers))

@@ -2,9 +2,8 @@ use Rattle.std.proofs.Common.{◌∙◌, sym, subst, ap}
 use Rattle.std.proofs.lemmas.Bool.{false≢true}
 use Rattle.drg_array.specs.Entries.{Entries}
 use Rattle.drg_derivation.specs.Text.{HasText}
-use Rattle.drg_engine.specs.Verdicts.{IsInfeasible}
 use Rattle.drg_engine.proofs.Decisions.{infeasible, of_parts}
-use Rattle.drg_engine.proofs.judging.infeasible.Goals as goal
+use Rattle.drg_engine.proofs.judging.infeasible_by.Goals as goal
 
 pub unreachable-requires : goal.unreachable-requires
 unreachable-requires c =
@@ -20,6 +19,5 @@ returns c = λ tests first.
     let lines = c.in_ok-lines.lines.items in
     let parts = c.in-Some.ensures.parts ∙ ap (λ (e : Entries). of_parts e claim lines) c.copied.ensures in
     let answer = c.acceptance_law.ensures (of_parts a claim lines) c.d.ensures.array c.requires.fails c.requires.made c.in_ok-lines.ensures in
-    subst (λ δ. IsInfeasible a tests claim c.class.result δ c.new-2.result) (sym parts)
-    (infeasible c.condition_law.ensures.holds a c.counting_claims_law.ensures c.d.ensures.array claim c.class.result lines c.new-2.result
-    c.class.ensures c.in_ok-lines.ensures answer (c.new-2.ensures ∙ c.new.ensures.items) c.requires.made tests first)
+    infeasible c.condition_law.ensures.holds a c.counting_claims_law.ensures c.d.ensures.array _ lines parts
+    c.class.ensures c.in_ok-lines.ensures answer (c.new-2.ensures ∙ c.new.ensures.items) c.requires.made tests first

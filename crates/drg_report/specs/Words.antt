@@ -1,0 +1,29 @@
+-- The words of which a report is made. They stand in the lines of a text, and each by itself in other forms of a report.
+use Rattle.std.specs.Prelude.{ℕ, List, ◌++◌, codes}
+use Rattle.drg_array.specs.Claims.{claim_text, class_name, test_name}
+use Rattle.drg_array.specs.Nodes.{node_text}
+use Rattle.drg_array.specs.declared.claim.Claim.{Claim}
+use Rattle.drg_array.specs.declared.claim.Class.{Class}
+use Rattle.drg_report.specs.declared.verdict.Cause.{Cause}
+use Rattle.drg_report.specs.declared.verdict.Cause.TheVariants.{Wide}
+use Rattle.drg_report.specs.declared.verdict.Pending.{Pending}
+use Rattle.drg_report.specs.declared.verdict.Verdict.{Verdict}
+use Rattle.drg_report.specs.declared.verdict.Verdict.TheVariants.{Infeasible, Undecided, Survivor}
+
+-- a claim and its class
+abbrev pub claim_words : Claim → Class → List ℕ
+claim_words claim class = claim_text claim ++ codes " " ++ class_name class
+
+-- what a verdict says in a few words
+abbrev pub verdict_words : Verdict → List ℕ
+verdict_words (Infeasible found) = codes "infeasible " ++ claim_words found.claim found.class
+verdict_words (Undecided found) = codes "undecided"
+verdict_words (Survivor found) = codes "survivor"
+
+-- why a test isn't decided: a number that is too wide
+abbrev pub cause_text : Cause → List ℕ
+cause_text (Wide node) = codes "wide " ++ node_text node
+
+-- a test that isn't decided, and why
+abbrev pub pending_text : Pending → List ℕ
+pending_text entry = test_name entry.test ++ codes " " ++ cause_text entry.cause

@@ -1,0 +1,66 @@
+//! The words of which a report is made.
+//!
+//! They stand in the lines of a text, and each by itself in other forms of a report. The helpers append,
+//! and after an error a part of what they write may be appended.
+
+ghost use Rattle.std.specs.Prelude.{◌≡◌, ◌++◌, IfOk, OnOk};
+ghost use Rattle.drg_report.specs.Words.{cause_text, claim_words, pending_text, verdict_words as the_verdict_words};
+
+use crate::{Cause, Pending, Verdict};
+use drg_array::{Claim, Class};
+use std::alloc::{AllocError, Global};
+
+/// What was found of an array in a few words: `survivor`, `undecided`, or `infeasible` with the claim and
+/// its class. The one error is want of memory.
+pub fn verdict_words(alloc: Global, verdict: &Verdict) -> Result<Vec<u8>, AllocError>
+    ensures { IfOk result (λ words. words.items ≡ the_verdict_words verdict.now) }
+{
+    let mut words = Vec::new(alloc);
+    write_verdict_words(verdict, &mut words)?;
+    Ok(words)
+}
+
+/// Appends the words of a verdict.
+pub(crate) fn write_verdict_words(verdict: &Verdict, out: &mut Vec<u8>) -> Result<(), AllocError>
+    ensures { OnOk result (out.new.items ≡ out.old.items ++ the_verdict_words verdict.now) }
+{
+    match verdict {
+        Verdict::Infeasible(found) => {
+            out.extend_from_slice(b"infeasible ")?;
+            write_claim_words(found.claim, found.class, out)
+        }
+        Verdict::Undecided(_) => out.extend_from_slice(b"undecided"),
+        Verdict::Survivor(_) => out.extend_from_slice(b"survivor"),
+    }
+}
+
+/// Appends the claim and its class, with one space between them. After an error a part of it may be
+/// appended.
+pub fn write_claim_words(claim: Claim, class: Class, out: &mut Vec<u8>) -> Result<(), AllocError>
+    ensures { OnOk result (out.new.items ≡ out.old.items ++ claim_words claim class) }
+{
+    claim.write_text(out)?;
+    out.extend_from_slice(b" ")?;
+    out.extend_from_slice(class.name().as_bytes())
+}
+
+/// Appends the test that isn't decided, and why.
+pub(crate) fn write_pending_text(entry: &Pending, out: &mut Vec<u8>) -> Result<(), AllocError>
+    ensures { OnOk result (out.new.items ≡ out.old.items ++ pending_text entry.now) }
+{
+    entry.test.write_text(out)?;
+    out.extend_from_slice(b" ")?;
+    write_cause(&entry.cause, out)
+}
+
+/// Appends why a test isn't decided.
+fn write_cause(cause: &Cause, out: &mut Vec<u8>) -> Result<(), AllocError>
+    ensures { OnOk result (out.new.items ≡ out.old.items ++ cause_text cause.now) }
+{
+    match cause {
+        Cause::Wide(node) => {
+            out.extend_from_slice(b"wide ")?;
+            node.write_text(out)
+        }
+    }
+}
