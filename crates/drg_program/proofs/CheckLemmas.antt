@@ -1,14 +1,33 @@
--- What a right verdict decides is what its status says.
-use Rattle.std.proofs.Common.{List, sym, subst}
-use Rattle.drg_array.specs.Entries.{Entries}
-use Rattle.drg_array.specs.Claims.{test_of}
+-- A right verdict can be read again, and says what is decided.
+use Rattle.std.proofs.Common.{List, Result, Ok, Err, refl, sym, subst}
+use Rattle.std.specs.Prelude.{IfOk}
+use Rattle.drg_array.specs.Entries.{Entries, IsArray}
 use Rattle.drg_array.specs.declared.test.Test.{Test}
+use Rattle.drg_derivation.specs.Laws.{OneText}
+use Rattle.drg_derivation.specs.Text.{derivation_text}
 use Rattle.drg_report.specs.declared.verdict.Verdict.{Verdict}
 use Rattle.drg_report.specs.declared.verdict.Verdict.TheVariants as verdict
-use Rattle.drg_engine.specs.Laws.{IsDecided}
-use Rattle.drg_program.specs.Check.{IsDecidedAs, status_of}
+use Rattle.drg_engine.specs.Laws.{CompletenessLaw, TextLaw}
+use Rattle.drg_engine.specs.Verdicts.{VerdictHolds}
+use Rattle.drg_program.specs.Check.{IsJudged, IsReadable}
 
-pub decided_as : (a : Entries) (tests : List Test) (v : Verdict) → IsDecided a tests v → IsDecidedAs a tests (status_of v)
-decided_as a tests (verdict.Infeasible found) h = (test_of found.claim, h.0, h.1)
-decided_as a tests (verdict.Undecided found) h = h
-decided_as a tests (verdict.Survivor found) h = h
+readable : (a : Entries) (tests : List Test) (v : Verdict) → TextLaw → OneText → IsArray a → VerdictHolds a tests v → IsReadable v
+readable a tests (verdict.Infeasible found) law one array h =
+    let same = h.derived.same_array in
+    let claimed = h.derived.same_claim in
+    (one (derivation_text found.derivation) found.derivation).1 (
+      law found.derivation (rw same array) (rw (same, claimed) h.claimed.fails) (rw (same, claimed) h.made) (rw (same, claimed) h.derived.lines),
+      refl,
+    )
+readable a tests (verdict.Undecided found) law one array h = tt
+readable a tests (verdict.Survivor found) law one array h = tt
+
+-- what is right is judged
+pub judged : {E : Type 0} (a : Entries) (tests : List Test) (result : Result Verdict E) → CompletenessLaw → TextLaw → OneText → IsArray a
+    → IfOk result (VerdictHolds a tests) → IfOk result (IsJudged a tests)
+judged a tests (Ok v) complete law one array h = record {
+  holds = h;
+  readable = readable a tests v law one array h;
+  decided = λ none. complete a tests v none h;
+}
+judged a tests (Err e) complete law one array h = tt

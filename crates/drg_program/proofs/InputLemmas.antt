@@ -5,7 +5,7 @@ use Rattle.std.specs.Result.{is_err}
 use Rattle.std.specs.Io.KnownBytes.{Consumes}
 use Rattle.drg_outside.specs.Files.{File, IsMissing, Opens, content_of}
 use Rattle.drg_outside.specs.Whole.{TakesCount}
-use Rattle.drg_program.specs.Run.{IsTold, AreBytesOf}
+use Rattle.drg_program.specs.Input.{AreBytesOf, AreInputOf, IsFileMissing, IsTold, IsToldInput}
 
 some-injective : (x y : List ℕ) → Some x ≡ Some y → x ≡ y
 some-injective x y e = cc
@@ -17,11 +17,22 @@ same_content files name bytes is told other = some-injective bytes told (sym is 
 none≢some : (bytes : List ℕ) → None ≡ Some bytes → ⊥
 none≢some bytes e = cc
 
--- a file that is told isn't missing, so the other cause holds
-pub told_is_there : (files : Option (List File)) (name bytes : List ℕ) (P : Type 0) → IsTold files name bytes → (P → ⊥) → P ⊎ IsMissing files name → ⊥
-told_is_there files name bytes P told never (inl cause) = never cause
-told_is_there None name bytes P told never (inr missing) = absurd told
-told_is_there (Some files) name bytes P told never (inr missing) = none≢some bytes (sym missing ∙ told)
+told_is_there : (files : Option (List File)) (name bytes : List ℕ) → IsTold files name bytes → IsMissing files name → ⊥
+told_is_there None name bytes told missing = told
+told_is_there (Some files) name bytes told missing = none≢some bytes (sym missing ∙ told)
+
+-- an input that is told isn't missing, so the other cause holds
+pub input_is_there : (files : Option (List File)) (file : Option (List ℕ)) (bytes : List ℕ) (P : Type 0) → IsToldInput files file bytes → (P → ⊥)
+    → P ⊎ IsFileMissing files file → ⊥
+input_is_there files file bytes P told never (inl cause) = never cause
+input_is_there files None bytes P told never (inr missing) = missing
+input_is_there files (Some name) bytes P told never (inr missing) = told_is_there files name bytes told missing
+
+-- the bytes of an input that is told are these
+pub same_input : (files : Option (List File)) (file : Option (List ℕ)) (bytes told : List ℕ) → AreInputOf files file bytes → IsToldInput files file told
+    → bytes ≡ told
+same_input files None bytes told are is = are ∙ sym is
+same_input files (Some name) bytes told are is = are told is
 
 -- there are bytes that the file has if it is told
 pub some_bytes : (files : Option (List File)) (name : List ℕ) → (bytes : List ℕ) × AreBytesOf files name bytes

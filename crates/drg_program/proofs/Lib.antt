@@ -1,5 +1,6 @@
 pub mod CheckLemmas
 mod InputLemmas
+mod OutputLemmas
 mod ReplayLemmas
-mod WordLemmas
 mod RunLemmas
+mod WordLemmas

@@ -10,75 +10,86 @@ use Rattle.drg_replay.specs.declared.answer.ReplayFault.TheVariants as fault
 use Rattle.drg_report.specs.declared.verdict.Verdict.{Verdict}
 use Rattle.drg_report.specs.declared.verdict.Verdict.TheVariants as verdict
 use Rattle.drg_program.specs.Check.{status_of}
+use Rattle.drg_program.specs.Input.{IsWithinLimit}
 use Rattle.drg_program.specs.Replay.{Tells}
-use Rattle.drg_program.specs.Run.{Answers, Decides, IsFault, IsInGrammar, IsReport, IsVerdict, IsWithinLimit}
+use Rattle.drg_program.specs.Run.{Answers, Decides, IsAnswerOf, IsBadAt, IsInGrammar, IsOutput}
+use Rattle.drg_program.specs.Statuses.{IsEarly, IsRefusal}
 use Rattle.drg_program.specs.declared.command.Command.{Command}
 use Rattle.drg_program.specs.declared.command.Command.TheVariants.{Check, Replay}
 use Rattle.drg_program.specs.declared.status.Status.{Status}
-use Rattle.drg_program.specs.declared.status.Status.TheVariants.{Survivor, Infeasible, Accepted, Rejected, Undecided, Usage, BadInput, TooLong, OpenFault, ReadFault, WriteFault, Memory}
+use Rattle.drg_program.specs.declared.status.Status.TheVariants.{Accepted, Rejected, Undecided, Usage, BadInput, TooLong, OpenFault, ReadFault, WriteFault, Memory}
 
-judged : (verdict : Verdict) (tests : List Test) → IsVerdict (status_of verdict) (Check tests)
-judged (verdict.Infeasible found) tests = tt
-judged (verdict.Undecided found) tests = tt
-judged (verdict.Survivor found) tests = tt
+judged : (v : Verdict) (tests : List Test) (file : List ℕ) → IsAnswerOf (status_of v) (Check tests file)
+judged (verdict.Infeasible found) tests file = tt
+judged (verdict.Undecided found) tests file = tt
+judged (verdict.Survivor found) tests file = tt
 
-told : (claim : Claim) (answer : Result Class ReplayFault) (status : Status) (text : List ℕ) → Tells claim answer status text → IsVerdict status Replay
-told claim (Ok class) status text h = subst (λ (s : Status). IsVerdict s Replay) (sym h.0) tt
-told claim (Err (fault.NotMet line)) status text h = subst (λ (s : Status). IsVerdict s Replay) (sym h.0) tt
-told claim (Err (fault.Open line)) status text h = subst (λ (s : Status). IsVerdict s Replay) (sym h.0) tt
-told claim (Err (fault.Wide line)) status text h = subst (λ (s : Status). IsVerdict s Replay) (sym h.0) tt
-told claim (Err fault.Memory) status text h = absurd h
+told : (claim : Claim) (answer : Result Class ReplayFault) (status : Status) (text file : List ℕ) → Tells claim answer status text → IsAnswerOf status (Replay file)
+told claim (Ok class) status text file h = rw h.0 tt
+told claim (Err (fault.NotMet line)) status text file h = rw h.0 tt
+told claim (Err (fault.Open line)) status text file h = rw h.0 tt
+told claim (Err (fault.Wide line)) status text file h = rw h.0 tt
+told claim (Err fault.Memory) status text file h = absurd h
 
--- the status of a report is an answer of the command
-is_verdict : (command : Command) (bytes : List ℕ) (status : Status) (text : List ℕ) → IsReport command bytes status text → IsVerdict status command
-is_verdict (Check tests) bytes status text (a, is, h) = subst (λ (s : Status). IsVerdict s (Check tests)) (sym h.status_is) (judged h.verdict tests)
-is_verdict Replay bytes status text report = told report.derivation.claim (answer_of report.derivation) status text report.concludes.tells
+-- the status of what is written is an answer of the command
+is_answer : (command : Command) (bytes : List ℕ) (status : Status) (text : List ℕ) → IsOutput command bytes status text → IsAnswerOf status command
+is_answer (Check tests file) bytes status text h = subst (λ (s : Status). IsAnswerOf s (Check tests file)) (sym h.told) (judged h.verdict tests file)
+is_answer (Replay file) bytes status text h = told h.derivation.claim (answer_of h.derivation) status text file h.concludes.tells
 
--- a report that was written whole is the answer of its status
-pub whole_report : (command : Command) (bytes : List ℕ) (status : Status) (text : List ℕ) (old new : Option (List ℕ)) → IsWithinLimit bytes
-    → IsReport command bytes status text → Appends old new text → Answers command bytes status old new
-whole_report command bytes Survivor text old new short report appended = (short, (text, report, appended))
-whole_report command bytes Infeasible text old new short report appended = (short, (text, report, appended))
-whole_report command bytes Accepted text old new short report appended = (short, (text, report, appended))
-whole_report command bytes Rejected text old new short report appended = (short, (text, report, appended))
-whole_report command bytes Undecided text old new short report appended = (short, (text, report, appended))
-whole_report command bytes Usage text old new short report appended = absurd (is_verdict command bytes Usage text report)
-whole_report command bytes (BadInput line at) text old new short report appended = absurd (is_verdict command bytes (BadInput line at) text report)
-whole_report command bytes TooLong text old new short report appended = absurd (is_verdict command bytes TooLong text report)
-whole_report command bytes OpenFault text old new short report appended = absurd (is_verdict command bytes OpenFault text report)
-whole_report command bytes ReadFault text old new short report appended = absurd (is_verdict command bytes ReadFault text report)
-whole_report command bytes WriteFault text old new short report appended = absurd (is_verdict command bytes WriteFault text report)
-whole_report command bytes Memory text old new short report appended = absurd (is_verdict command bytes Memory text report)
+-- and no refusal
+no_refusal : (status : Status) (command : Command) → IsAnswerOf status command → IsRefusal status → ⊥
+no_refusal Usage command answer refused = answer
+no_refusal (BadInput line at) command answer refused = answer
+no_refusal TooLong command answer refused = answer
+no_refusal OpenFault command answer refused = answer
+no_refusal ReadFault command answer refused = answer
+no_refusal WriteFault command answer refused = answer
+no_refusal Memory command answer refused = answer
+no_refusal status command answer refused = refused
 
-in_grammar : (command : Command) (bytes : List ℕ) (status : Status) (text : List ℕ) → IsReport command bytes status text → IsInGrammar command bytes
-in_grammar (Check tests) bytes status text (a, is, h) = (a, is)
-in_grammar Replay bytes status text report = (report.n, report.derivation, report.begins)
+refused : (status : Status) → IsEarly status → IsRefusal status
+refused WriteFault early = absurd early
+refused status early = early
 
-not_in_grammar : (command : Command) (bytes : List ℕ) (line at : ℕ) → IsFault command bytes line at → IsInGrammar command bytes → ⊥
-not_in_grammar (Check tests) bytes line at (one, (none, kind, fault)) (a, is) = none a is
-not_in_grammar Replay bytes line at (zero, (none, refused)) (n, δ, begins) = none n δ begins
+pub not_early : (command : Command) (bytes : List ℕ) (status : Status) (text : List ℕ) → IsOutput command bytes status text → IsEarly status → ⊥
+not_early command bytes status text output early = no_refusal status command (is_answer command bytes status text output) (refused status early)
 
-reported : (command : Command) (bytes : List ℕ) (status : Status) (text : List ℕ) → IsWithinLimit bytes → IsReport command bytes status text
+-- what was written whole is the answer of its status
+pub whole : (command : Command) (bytes : List ℕ) (status : Status) (text : List ℕ) (old new : Option (List ℕ)) → IsWithinLimit bytes
+    → IsOutput command bytes status text → Appends old new text → Answers command bytes status old new
+whole command bytes Usage text old new short output appended = absurd (is_answer command bytes Usage text output)
+whole command bytes (BadInput line at) text old new short output appended = absurd (is_answer command bytes (BadInput line at) text output)
+whole command bytes TooLong text old new short output appended = absurd (is_answer command bytes TooLong text output)
+whole command bytes OpenFault text old new short output appended = absurd (is_answer command bytes OpenFault text output)
+whole command bytes ReadFault text old new short output appended = absurd (is_answer command bytes ReadFault text output)
+whole command bytes WriteFault text old new short output appended = absurd (is_answer command bytes WriteFault text output)
+whole command bytes Memory text old new short output appended = absurd (is_answer command bytes Memory text output)
+whole command bytes status text old new short output appended = (short, (text, output, appended))
+
+in_grammar : (command : Command) (bytes : List ℕ) (status : Status) (text : List ℕ) → IsOutput command bytes status text → IsInGrammar command bytes
+in_grammar (Check tests file) bytes status text h = (h.array, h.read)
+in_grammar (Replay file) bytes status text h = (h.n, h.derivation, h.begins)
+
+not_in_grammar : (command : Command) (bytes : List ℕ) (line at : ℕ) → IsBadAt command bytes line at → IsInGrammar command bytes → ⊥
+not_in_grammar (Check tests file) bytes line at (one, (none, kind, fault)) (a, is) = none a is
+not_in_grammar (Replay file) bytes line at (zero, (none, refused)) (n, δ, begins) = none n δ begins
+
+written : (command : Command) (bytes : List ℕ) (status : Status) (text : List ℕ) → IsWithinLimit bytes → IsOutput command bytes status text
     → Decides command bytes status
-reported command bytes status text short report = record {
+written command bytes status text short output = record {
   long = λ long. absurd (omega (arith, short, long));
-  bad = λ _ none. absurd (none (in_grammar command bytes status text report));
-  good = λ _ _. is_verdict command bytes status text report;
+  bad = λ _ none. absurd (none (in_grammar command bytes status text output));
+  good = λ _ _. is_answer command bytes status text output;
 }
 
 -- where nothing failed, the bytes decide
 pub decided : (command : Command) (bytes : List ℕ) (status : Status) (old new : Option (List ℕ)) → Answers command bytes status old new
     → status ≢ OpenFault → status ≢ ReadFault → status ≢ WriteFault → status ≢ Memory → Decides command bytes status
-decided command bytes Survivor old new (short, (text, report, appended)) opened read write memory = reported command bytes Survivor text short report
-decided command bytes Infeasible old new (short, (text, report, appended)) opened read write memory = reported command bytes Infeasible text short report
-decided command bytes Accepted old new (short, (text, report, appended)) opened read write memory = reported command bytes Accepted text short report
-decided command bytes Rejected old new (short, (text, report, appended)) opened read write memory = reported command bytes Rejected text short report
-decided command bytes Undecided old new (short, (text, report, appended)) opened read write memory = reported command bytes Undecided text short report
 decided command bytes Usage old new answers opened read write memory = absurd answers
-decided command bytes (BadInput line at) old new (short, fault) opened read write memory = record {
+decided command bytes (BadInput line at) old new (short, bad) opened read write memory = record {
   long = λ long. absurd (omega (arith, short, long));
   bad = λ _ _. (line, at, refl);
-  good = λ _ good. absurd (not_in_grammar command bytes line at fault good);
+  good = λ _ good. absurd (not_in_grammar command bytes line at bad good);
 }
 decided command bytes TooLong old new long opened read write memory = record {
   long = λ _. refl;
@@ -89,3 +100,4 @@ decided command bytes OpenFault old new answers opened read write memory = absur
 decided command bytes ReadFault old new answers opened read write memory = absurd (read refl)
 decided command bytes WriteFault old new answers opened read write memory = absurd (write refl)
 decided command bytes Memory old new answers opened read write memory = absurd (memory refl)
+decided command bytes status old new (short, (text, output, appended)) opened read write memory = written command bytes status text short output

@@ -1,28 +1,26 @@
 -- The words of a command are those of one command, with one list of tests, on one file.
-use Rattle.std.proofs.Common.{◌≡◌, ℕ, ◌≤◌, ◌<◌, inl, inr, List, [], ◌∷◌, length, get_or, refl, sym, ap, subst, ◌∙◌, arith}
+use Rattle.std.proofs.Common.{◌≡◌, ℕ, ◌≤◌, ◌<◌, inl, inr, ◌⊎◌, List, [], ◌∷◌, length, get_or, refl, sym, ap, subst, ◌∙◌, arith}
 use Rattle.std.specs.Prelude.{codes, string_bytes}
 use Rattle.std.specs.declared.alloc.Global.{Global}
 use Rattle.std.specs.declared.string.String.{String}
 use Rattle.drg_array.specs.TestLists.{IsTestList}
 use Rattle.drg_array.proofs.TestTexts.{one_list}
 use Rattle.drg_array.specs.declared.test.Test.{Test}
-use Rattle.drg_program.specs.Words.{AreWordsOf, IsCommand, IsCommandOn, OneCommand, words_of}
+use Rattle.drg_program.specs.Words.{AreWordsOf, IsListedCheck, IsWholeCheck, OneCommand, words_of}
 use Rattle.drg_program.specs.declared.command.Command.{Command}
 use Rattle.drg_program.specs.declared.command.Command.TheVariants.{Check, Replay}
 
--- four words of which the first three begin no command
-pub not_listed : (words : List (String Global)) (first second third : String Global) (name option list : List ℕ)
+-- the bytes of four words
+pub four_words : (words : List (String Global)) (first second third fourth : String Global) (name option list file : List ℕ)
     → 4 ≤ length words → length words < 5 → first ≡ get_or words 0 first → second ≡ get_or words 1 second → third ≡ get_or words 2 third
-    → name ≡ string_bytes first → option ≡ string_bytes second → list ≡ string_bytes third
-    → ((command : Command) (file last : List ℕ) → AreWordsOf command file (name ∷ option ∷ list ∷ last ∷ []) → ⊥) → IsCommand (words_of words) → ⊥
-not_listed [] first second third name option list least below e f g l m n none found = absurd (omega arith)
-not_listed (w ∷ []) first second third name option list least below e f g l m n none found = absurd (omega arith)
-not_listed (w ∷ x ∷ []) first second third name option list least below e f g l m n none found = absurd (omega arith)
-not_listed (w ∷ x ∷ y ∷ []) first second third name option list least below e f g l m n none found = absurd (omega arith)
-not_listed (w ∷ x ∷ y ∷ z ∷ []) first second third name option list least below e f g l m n none (command, file, on) =
-    let same : words_of (w ∷ x ∷ y ∷ z ∷ []) ≡ name ∷ option ∷ list ∷ string_bytes z ∷ [] = cc in
-    none command file (string_bytes z) (subst (λ (words : List (List ℕ)). AreWordsOf command file words) same on.0)
-not_listed (v ∷ w ∷ x ∷ y ∷ z ∷ zs) first second third name option list least below e f g l m n none found = absurd (omega arith)
+    → fourth ≡ get_or words 3 fourth → name ≡ string_bytes first → option ≡ string_bytes second → list ≡ string_bytes third → file ≡ string_bytes fourth
+    → words_of words ≡ name ∷ option ∷ list ∷ file ∷ []
+four_words [] first second third fourth name option list file least below e f g h l m n o = absurd (omega arith)
+four_words (w ∷ []) first second third fourth name option list file least below e f g h l m n o = absurd (omega arith)
+four_words (w ∷ x ∷ []) first second third fourth name option list file least below e f g h l m n o = absurd (omega arith)
+four_words (w ∷ x ∷ y ∷ []) first second third fourth name option list file least below e f g h l m n o = absurd (omega arith)
+four_words (w ∷ x ∷ y ∷ z ∷ []) first second third fourth name option list file least below e f g h l m n o = cc
+four_words (v ∷ w ∷ x ∷ y ∷ z ∷ zs) first second third fourth name option list file least below e f g h l m n o = absurd (omega arith)
 
 short : (first second file name : List ℕ) → first ∷ file ∷ [] ≡ second ∷ name ∷ [] → file ≡ name
 short first second file name e = cc
@@ -37,31 +35,31 @@ short_or_long first second third fourth file name e = cc
 differ : (file name : List ℕ) → codes "check" ∷ file ∷ [] ≡ codes "replay" ∷ name ∷ [] → ⊥
 differ file name e = cc
 
-check : (tests : List Test) (command : Command) (file name : List ℕ) (words : List (List ℕ)) → AreWordsOf (Check tests) file words
-    → AreWordsOf command name words → (Check tests ≡ command) × (file ≡ name)
-check tests (Check others) file name words (inl (e, all)) (inl (f, whole)) =
-    (ap Check (all ∙ sym whole), short (codes "check") (codes "check") file name (sym e ∙ f))
-check tests (Check others) file name words (inl (e, all)) (inr (list, f, is)) = absurd (short_or_long _ _ _ _ _ _ (sym e ∙ f))
-check tests (Check others) file name words (inr (list, e, is)) (inl (f, whole)) = absurd (short_or_long _ _ _ _ _ _ (sym f ∙ e))
-check tests (Check others) file name words (inr (list, e, is)) (inr (other, f, was)) =
-    let same = long list other file name (sym e ∙ f) in
-    (ap Check (one_list other tests others (subst (λ (text : List ℕ). IsTestList text tests) same.0 is) was), same.1)
-check tests Replay file name words (inl (e, all)) f = absurd (differ file name (sym e ∙ f))
-check tests Replay file name words (inr (list, e, is)) f = absurd (short_or_long _ _ _ _ _ _ (sym f ∙ e))
+same_check : (tests others : List Test) (file name : List ℕ) → tests ≡ others → file ≡ name → Check tests file ≡ Check others name
+same_check tests others file name e f = cc
 
-replay : (command : Command) (file name : List ℕ) (words : List (List ℕ)) → AreWordsOf Replay file words → AreWordsOf command name words
-    → (Replay ≡ command) × (file ≡ name)
-replay (Check tests) file name words e (inl (f, all)) = absurd (differ name file (sym f ∙ e))
-replay (Check tests) file name words e (inr (list, f, is)) = absurd (short_or_long _ _ _ _ _ _ (sym e ∙ f))
-replay Replay file name words e f = (refl, short (codes "replay") (codes "replay") file name (sym e ∙ f))
+check : (tests : List Test) (file : List ℕ) (other : Command) (words : List (List ℕ))
+    → IsWholeCheck tests file words ⊎ IsListedCheck tests file words → AreWordsOf other words → Check tests file ≡ other
+check tests file (Check others name) words (inl (e, all)) (is, inl (f, whole)) =
+    same_check tests others file name (all ∙ sym whole) (short (codes "check") (codes "check") file name (sym e ∙ f))
+check tests file (Check others name) words (inl (e, all)) (is, inr (list, f, read)) = absurd (short_or_long _ _ _ _ _ _ (sym e ∙ f))
+check tests file (Check others name) words (inr (list, e, read)) (is, inl (f, whole)) = absurd (short_or_long _ _ _ _ _ _ (sym f ∙ e))
+check tests file (Check others name) words (inr (list, e, read)) (is, inr (other, f, was)) =
+    let same = long list other file name (sym e ∙ f) in
+    same_check tests others file name (one_list other tests others (subst (λ (text : List ℕ). IsTestList text tests) same.0 read) was) same.1
+check tests file (Replay name) words (inl (e, all)) (is, f) = absurd (differ file name (sym e ∙ f))
+check tests file (Replay name) words (inr (list, e, read)) (is, f) = absurd (short_or_long _ _ _ _ _ _ (sym f ∙ e))
+
+replay : (file : List ℕ) (other : Command) (words : List (List ℕ)) → words ≡ codes "replay" ∷ file ∷ [] → AreWordsOf other words → Replay file ≡ other
+replay file (Check tests name) words e (is, inl (f, all)) = absurd (differ name file (sym f ∙ e))
+replay file (Check tests name) words e (is, inr (list, f, read)) = absurd (short_or_long _ _ _ _ _ _ (sym e ∙ f))
+replay file (Replay name) words e (is, f) = ap Replay (short (codes "replay") (codes "replay") file name (sym e ∙ f))
 
 pub one_command : OneCommand
-one_command words (Check tests) other file name is was = check tests other file name words is.0 was.0
-one_command words Replay other file name is was = replay other file name words is.0 was.0
+one_command words (Check tests file) other is was = check tests file other words is.1 was
+one_command words (Replay file) other is was = replay file other words is.1 was
 
--- what holds of the command that was found, on its file, holds of each command that the words are
-pub of_each_command : (words : List (List ℕ)) (P : Command → List ℕ → Type 0) (command other : Command) (file name : List ℕ) → IsCommandOn command file words
-    → IsCommandOn other name words → P command file → P other name
-of_each_command words P command other file name is was p =
-    let same = one_command words command other file name is was in
-    subst (λ (last : List ℕ). P other last) same.1 (subst (λ (asked : Command). P asked file) same.0 p)
+-- what holds of the command that was found holds of each command that the words are
+pub of_each_command : (words : List (List ℕ)) (P : Command → Type 0) (command other : Command) → AreWordsOf command words → AreWordsOf other words
+    → P command → P other
+of_each_command words P command other is was p = subst P (one_command words command other is was) p

@@ -2,7 +2,6 @@
 use Rattle.std.specs.Prelude.{◌≡◌, ℕ, List, if◌then◌else◌, ◌==◌, ◌&&◌, ◌-◌, ⊤, nat_lt, length, take, slice_index}
 use Rattle.drg_array.specs.Entries.{Entries}
 use Rattle.drg_array.specs.Text.{IsArrayText}
-use Rattle.drg_array.specs.Conditions.{CountsHold}
 use Rattle.drg_array.specs.Faults.{IsFault}
 use Rattle.drg_array.specs.declared.fault.ArrayKind.{ArrayKind}
 use Rattle.drg_array.specs.declared.test.Test.{Test}
@@ -10,8 +9,8 @@ use Rattle.drg_derivation.specs.Text.{IsDerivationText, derivation_text}
 use Rattle.drg_report.specs.Texts.{report_text}
 use Rattle.drg_report.specs.declared.verdict.Verdict.{Verdict}
 use Rattle.drg_report.specs.declared.verdict.Verdict.TheVariants as verdict
-use Rattle.drg_engine.specs.Laws.{NoneIsWide}
-use Rattle.drg_engine.specs.Verdicts.{Runs, VerdictHolds}
+use Rattle.drg_engine.specs.Laws.{IsDecided, NoneIsWide}
+use Rattle.drg_engine.specs.Verdicts.{VerdictHolds}
 use Rattle.drg_program.specs.declared.status.Status.{Status}
 use Rattle.drg_program.specs.declared.status.Status.TheVariants.{Survivor, Infeasible, Undecided}
 
@@ -34,34 +33,34 @@ HasNoArray bytes = (a : Entries) → IsArrayOf bytes a → ⊥
 abbrev pub IsFaultAt : List ℕ → ℕ → Type 0
 IsFaultAt bytes at = HasNoArray bytes × (kind : ArrayKind) × IsFault (without_line_end bytes) (record { at = at; kind = kind })
 
--- the status with which a verdict is told
-abbrev pub status_of : Verdict → Status
-status_of (verdict.Infeasible found) = Infeasible
-status_of (verdict.Undecided found) = Undecided
-status_of (verdict.Survivor found) = Survivor
-
 -- the derivation of an infeasible array is written as a text that `replay` reads as this derivation
 abbrev pub IsReadable : Verdict → Type 0
 IsReadable (verdict.Infeasible found) = IsDerivationText (derivation_text found.derivation) found.derivation
 IsReadable (verdict.Undecided found) = ⊤
 IsReadable (verdict.Survivor found) = ⊤
 
--- what a status says where no number is too wide: some test that runs doesn't hold, or each holds
-abbrev pub IsDecidedAs : Entries → List Test → Status → Type 0
-IsDecidedAs a tests Infeasible = (t : Test) × Runs tests t × ¬ CountsHold a t
-IsDecidedAs a tests Survivor = (t : Test) → Runs tests t → CountsHold a t
-IsDecidedAs a tests status = ⊥
-
--- The status and the report of an array, where these tests are selected: those of a right verdict. What a right verdict says
--- stands in specs/Verdicts.antt of drg_engine. Of an infeasible array it says that the array fails the claim and no claim
--- before it, that its derivation is accepted with the class that is written, and, where this is the class of counting, that no
--- graph has the array. Of a survivor it says that each test that runs holds, and that these are its numbers. Of an undecided
--- one it says which number is too wide, and that the tests before it hold. Where no number is too wide, the array is
--- infeasible exactly where a test that runs doesn't hold, and else a survivor.
-pub record Judges (a : Entries) (tests : List Test) (status : Status) (text : List ℕ) : Type 0 where
-  pub verdict : Verdict
+-- A right verdict on the array, where these tests are selected. What a right verdict says stands in specs/Verdicts.antt of
+-- drg_engine. Of an infeasible array it says that the array fails the claim and no claim before it, that its derivation is
+-- accepted with the class that is written, and, where this is the class of counting, that no graph has the array. Of a survivor
+-- it says that each test that runs holds, and that these are its numbers. Of an undecided one it says which number is too wide,
+-- and that the tests before it hold. Where no number is too wide, the array is infeasible exactly where a test that runs doesn't
+-- hold, and else a survivor.
+pub record IsJudged (a : Entries) (tests : List Test) (verdict : Verdict) : Type 0 where
   pub holds : VerdictHolds a tests verdict
   pub readable : IsReadable verdict
-  pub status_is : status ≡ status_of verdict
-  pub text_is : text ≡ report_text a verdict
-  pub decided : NoneIsWide a → IsDecidedAs a tests status
+  pub decided : NoneIsWide a → IsDecided a tests verdict
+
+-- the status with which a verdict is told
+abbrev pub status_of : Verdict → Status
+status_of (verdict.Infeasible found) = Infeasible
+status_of (verdict.Undecided found) = Undecided
+status_of (verdict.Survivor found) = Survivor
+
+-- The bytes are the text of an array. It is judged, and this is the status of the verdict and the text of its report.
+pub record Checks (bytes : List ℕ) (tests : List Test) (status : Status) (text : List ℕ) : Type 0 where
+  pub array : Entries
+  pub read : IsArrayOf bytes array
+  pub verdict : Verdict
+  pub judged : IsJudged array tests verdict
+  pub told : status ≡ status_of verdict
+  pub written : text ≡ report_text array verdict

@@ -1,6 +1,7 @@
 pub mod Words
 pub mod Statuses
-pub mod Report
-pub mod Replay
+pub mod Input
 pub mod Check
+pub mod AnswerText
+pub mod Replay
 pub mod Run

@@ -10,7 +10,7 @@ use Rattle.drg_graph.specs.Graph.{NoGraph}
 use Rattle.drg_replay.specs.Answers.{answer_of}
 use Rattle.drg_replay.specs.declared.answer.ReplayFault.{ReplayFault}
 use Rattle.drg_replay.specs.declared.answer.ReplayFault.TheVariants.{NotMet, Open, Wide, Memory}
-use Rattle.drg_program.specs.Report.{accepted_text, rejected_text, open_text, wide_text}
+use Rattle.drg_program.specs.AnswerText.{accepted_text, rejected_text, open_text, wide_text}
 use Rattle.drg_program.specs.declared.status.Status.{Status}
 use Rattle.drg_program.specs.declared.status.Status.TheVariants.{Accepted, Rejected, Undecided}
 

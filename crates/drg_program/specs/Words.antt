@@ -1,5 +1,5 @@
--- Which words are a command, and on which file.
-use Rattle.std.specs.Prelude.{◌≡◌, ◌≢◌, ◌⊎◌, ℕ, List, [], ◌∷◌, map, codes, slice_index, string_bytes}
+-- Which words are a command, with which options and on which file.
+use Rattle.std.specs.Prelude.{◌≡◌, ◌≢◌, ◌⊎◌, ℕ, List, [], ◌∷◌, Option, Some, map, codes, slice_index, string_bytes}
 use Rattle.std.specs.declared.alloc.Global.{Global}
 use Rattle.std.specs.declared.string.String.{String}
 use Rattle.drg_array.specs.TestLists.{IsTestList}
@@ -12,6 +12,10 @@ use Rattle.drg_program.specs.declared.command.Command.TheVariants.{Check, Replay
 abbrev pub words_of : List (String Global) → List (List ℕ)
 words_of words = map string_bytes words
 
+-- the name of a file doesn't begin with `-`
+abbrev pub IsFileName : List ℕ → Type 0
+IsFileName word = slice_index word 0 ≢ 45
+
 -- `check FILE` selects all built tests
 abbrev pub IsWholeCheck : List Test → List ℕ → List (List ℕ) → Type 0
 IsWholeCheck tests file words = (words ≡ codes "check" ∷ file ∷ []) × (tests ≡ BUILT)
@@ -21,24 +25,19 @@ abbrev pub IsListedCheck : List Test → List ℕ → List (List ℕ) → Type 0
 IsListedCheck tests file words =
     (list : List ℕ) × (words ≡ codes "check" ∷ codes "--tests" ∷ list ∷ file ∷ []) × IsTestList list tests
 
--- these are exactly the words of the command, with the tests that it selects, and a file
-abbrev pub AreWordsOf : Command → List ℕ → List (List ℕ) → Type 0
-AreWordsOf (Check tests) file words = IsWholeCheck tests file words ⊎ IsListedCheck tests file words
-AreWordsOf Replay file words = words ≡ codes "replay" ∷ file ∷ []
-
--- a file doesn't begin with `-`
-abbrev pub IsFile : List ℕ → Type 0
-IsFile word = slice_index word 0 ≢ 45
-
--- the words are those of the command on this file
-abbrev pub IsCommandOn : Command → List ℕ → List (List ℕ) → Type 0
-IsCommandOn command file words = AreWordsOf command file words × IsFile file
+-- these are exactly the words of the command, with its options and its file
+abbrev pub AreWordsOf : Command → List (List ℕ) → Type 0
+AreWordsOf (Check tests file) words = IsFileName file × (IsWholeCheck tests file words ⊎ IsListedCheck tests file words)
+AreWordsOf (Replay file) words = IsFileName file × (words ≡ codes "replay" ∷ file ∷ [])
 
 abbrev pub IsCommand : List (List ℕ) → Type 0
-IsCommand words = (command : Command) × (file : List ℕ) × IsCommandOn command file words
+IsCommand words = (command : Command) × AreWordsOf command words
 
--- the words have one command, with one list of tests, and one file
+-- the file that the command reads, where it reads one
+abbrev pub file_of : Command → Option (List ℕ)
+file_of (Check tests file) = Some file
+file_of (Replay file) = Some file
+
+-- the words are those of one command, with one list of tests, on one file
 abbrev pub OneCommand : Type 0
-OneCommand =
-    (words : List (List ℕ)) (command other : Command) (file name : List ℕ) → IsCommandOn command file words → IsCommandOn other name words
-    → (command ≡ other) × (file ≡ name)
+OneCommand = (words : List (List ℕ)) (command other : Command) → AreWordsOf command words → AreWordsOf other words → command ≡ other

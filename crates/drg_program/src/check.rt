@@ -1,32 +1,58 @@
-ghost use Rattle.std.specs.Prelude.{◌≡◌, IfOk};
-ghost use Rattle.drg_derivation.specs.Text.{IsDerivationText, derivation_text};
-ghost use Rattle.drg_program.specs.Check.{IsReadable, Judges, status_of as the_status, without_line_end};
-ghost use Rattle.drg_program.specs.Run.{Reports};
+ghost use Rattle.std.specs.Prelude.{◌≡◌, ℕ, List, Some, IfOk};
+ghost use Rattle.drg_array.specs.Entries.{IsArray};
+ghost use Rattle.drg_program.specs.Check.{IsJudged, status_of as the_status, without_line_end};
+ghost use Rattle.drg_program.specs.Input.{AreBytesOf, HasCauses};
+ghost use Rattle.drg_program.specs.Run.{Ends, Finds};
 ghost use Rattle.drg_program.specs.declared.command.Command.TheVariants.{Check};
 
 use crate::Status;
-use crate::report::{Report, ReportFault};
+use crate::command::FileName;
+use crate::input::read_input;
+use crate::output::{Output, Refusal};
 use drg_array::{Array, TestSet};
-use drg_derivation::{Derivation, one_text_law};
-use drg_engine::{completeness_law, judge};
+use drg_derivation::one_text_law;
+use drg_engine::{completeness_law, judge, text_law};
+use drg_outside::Inputs;
 use drg_report::{Verdict, render};
 use std::alloc::{AllocError, Global};
 
-/// Judges the one array that the input holds, by the tests that always run and these.
-pub fn check(alloc: Global, bytes: &[u8], tests: &TestSet) -> Result<Report, ReportFault>
-    ensures { Reports (Check tests.now) bytes.now result }
+/// Judges the one array that the file holds, by the tests that always run and these.
+pub fn check<I: Inputs>(
+    alloc: Global,
+    inputs: &mut I,
+    file: &FileName<'_>,
+    tests: &TestSet,
+) -> Result<Output, Refusal>
+    ensures output { (bytes : List ℕ) × AreBytesOf (I.files inputs.old) file.now bytes
+        × Ends (Check tests.now file.now) bytes result }
+    ensures causes { HasCauses (Some file.now) (I.files inputs.old)
+        (I.open_faults inputs.old) (I.open_faults inputs.new)
+        (I.read_faults inputs.old) (I.read_faults inputs.new) result }
+    ensures same_files { I.files inputs.new ≡ I.files inputs.old }
+{
+    let bytes = read_input(alloc, inputs, file.as_str())?;
+    check_text(alloc, &bytes, tests)
+}
+
+/// Judges the one array that stands in these bytes.
+fn check_text(alloc: Global, bytes: &[u8], tests: &TestSet) -> Result<Output, Refusal>
+    ensures { (file : List ℕ) → Finds (Check tests.now file) bytes.now result }
 {
     let array = match Array::read(without_end(bytes)) {
         Ok(array) => array,
         Err(fault) => {
-            return Err(ReportFault::BadInput {
+            return Err(Refusal::BadInput {
                 line: 1,
                 at: fault.at,
             });
         }
     };
-    let report = report_on(alloc, &array, tests)?;
-    Ok(report)
+    let verdict = judged(alloc, &array, tests)?;
+    let text = render(alloc, &array, &verdict)?;
+    Ok(Output {
+        status: status_of(&verdict),
+        text,
+    })
 }
 
 /// The bytes less one line end.
@@ -40,38 +66,24 @@ fn without_end(bytes: &[u8]) -> &[u8]
     }
 }
 
-/// The status and the text of the array's verdict.
-fn report_on(alloc: Global, array: &Array, tests: &TestSet) -> Result<Report, AllocError>
-    ensures { IfOk result (λ report. Judges array.now tests.now report.status report.text.items) }
+/// The right verdict on the array.
+fn judged(alloc: Global, array: &Array, tests: &TestSet) -> Result<Verdict, AllocError>
+    requires { IsArray array.now }
+    ensures { IfOk result (IsJudged array.now tests.now) }
 {
     completeness_law();
-    let verdict = judge(alloc, array, tests)?;
-    let text = render(alloc, array, &verdict)?;
-    Ok(Report {
-        status: status_of(&verdict),
-        text,
-    })
+    text_law();
+    one_text_law();
+    judge(alloc, array, tests)
 }
 
 /// The status with which a verdict is told.
 fn status_of(verdict: &Verdict) -> Status
-    ensures status { result ≡ the_status verdict.now }
-    ensures readable { IsReadable verdict.now }
+    ensures { result ≡ the_status verdict.now }
 {
     match verdict {
-        Verdict::Infeasible(found) => {
-            see_text(&found.derivation);
-            Status::Infeasible
-        }
+        Verdict::Infeasible(_) => Status::Infeasible,
         Verdict::Undecided(_) => Status::Undecided,
         Verdict::Survivor(_) => Status::Survivor,
     }
-}
-
-/// What is written of a derivation is a text of it.
-fn see_text(derivation: &Derivation)
-    ensures { IsDerivationText (derivation_text derivation.now) derivation.now }
-{
-    one_text_law();
-    let _seen = derivation.claim;
 }

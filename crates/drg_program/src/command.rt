@@ -1,70 +1,96 @@
-ghost use Rattle.std.specs.Prelude.{◌≡◌, ◌∷◌, [], List, ℕ, IfSome, IfNone};
-ghost use Rattle.drg_program.specs.Words.{AreWordsOf, IsCommand, IsCommandOn, IsFile, OneCommand, words_of};
+ghost use Rattle.std.specs.Prelude.{◌≡◌, ◌∷◌, [], IfSome, IfNone};
+ghost use Rattle.drg_program.specs.Words.{AreWordsOf, IsCommand, IsFileName, OneCommand, words_of};
 
 use drg_array::TestSet;
+use std::marker::Model;
 
-/// What the program can be asked to do with a file.
+/// The name of a file, as it stands among the words.
 #[derive(Drop)]
-pub enum Command {
-    /// Judge the array that it holds, by the tests that always run and those that are selected.
-    Check { tests: TestSet },
-    /// Answer the derivation at its front.
-    Replay,
+pub struct FileName<'a> {
+    name: &'a str,
 }
 
-/// The command of these words, and its file.
-pub fn command_of(words: &[String]) -> Option<(Command, &str)>
-    ensures found { IfSome result (λ x. IsCommandOn x.0 x.1.now (words_of words.now)) }
+// Contracts see the bytes of the name.
+impl<'a> Model for FileName<'a> {
+    ghost use Rattle.std.specs.Prelude.{List, ℕ};
+
+    ghost Value = { List ℕ };
+
+    ghost view = { λ file. file.name.now };
+}
+
+impl FileName<'_> {
+    /// The name as a text.
+    pub fn as_str(&self) -> &str
+        ensures { result.now ≡ self.now }
+    {
+        self.name
+    }
+}
+
+/// What the program can be asked to do, with its options and its file.
+#[derive(Drop)]
+pub enum Command<'a> {
+    /// Judge the array in the file, by the tests that always run and those that are selected.
+    Check { tests: TestSet, file: FileName<'a> },
+    /// Answer the derivation at the front of the file.
+    Replay { file: FileName<'a> },
+}
+
+/// The command of these words.
+pub fn command_of(words: &[String]) -> Option<Command<'_>>
+    ensures found { IfSome result (λ command. AreWordsOf command (words_of words.now)) }
     ensures none { IfNone result (IsCommand (words_of words.now) → ⊥) }
 {
     match words {
-        [name, file] => Some((command_named(name)?, file_named(file)?)),
-        [name, option, list, file] => {
-            Some((check_listed(name, option, list)?, file_named(file)?))
-        }
+        [name, file] => command_named(name, file_named(file)?),
+        [name, option, list, file] => check_listed(name, option, list, file_named(file)?),
         _ => None,
     }
-}
-
-/// The command of this name, without a list of tests.
-fn command_named(name: &str) -> Option<Command>
-    ensures found { IfSome result (λ command. (file : List ℕ) →
-        AreWordsOf command file (name.now ∷ file ∷ [])) }
-    ensures none { IfNone result ((command : Command) (file last : List ℕ) →
-        AreWordsOf command file (name.now ∷ last ∷ []) → ⊥) }
-{
-    match name {
-        "check" => Some(Command::Check {
-            tests: TestSet::all(),
-        }),
-        "replay" => Some(Command::Replay),
-        _ => None,
-    }
-}
-
-/// The command of these words, with a list of tests.
-fn check_listed(name: &str, option: &str, list: &str) -> Option<Command>
-    ensures found { IfSome result (λ command. (file : List ℕ) →
-        AreWordsOf command file (name.now ∷ option.now ∷ list.now ∷ file ∷ [])) }
-    ensures none { IfNone result ((command : Command) (file last : List ℕ) →
-        AreWordsOf command file (name.now ∷ option.now ∷ list.now ∷ last ∷ []) → ⊥) }
-{
-    if name != "check" || option != "--tests" {
-        return None;
-    }
-    let tests = TestSet::read(list)?;
-    Some(Command::Check { tests })
 }
 
 /// The file of this word.
 fn file_named(word: &str) -> Option<&str>
-    ensures found { IfSome result (λ file. (file.now ≡ word.now) × IsFile word.now) }
-    ensures none { IfNone result (IsFile word.now → ⊥) }
+    ensures found { IfSome result (λ file. (file.now ≡ word.now) × IsFileName word.now) }
+    ensures none { IfNone result (IsFileName word.now → ⊥) }
 {
     match word.as_bytes() {
         [b'-', ..] => None,
         _ => Some(word),
     }
+}
+
+/// The command of this name on the file, without options.
+fn command_named<'a>(name: &str, file: &'a str) -> Option<Command<'a>>
+    requires { IsFileName file.now }
+    ensures found { IfSome result (λ command. AreWordsOf command (name.now ∷ file.now ∷ [])) }
+    ensures none { IfNone result (IsCommand (name.now ∷ file.now ∷ []) → ⊥) }
+{
+    let file = FileName { name: file };
+    match name {
+        "check" => Some(Command::Check {
+            tests: TestSet::all(),
+            file,
+        }),
+        "replay" => Some(Command::Replay { file }),
+        _ => None,
+    }
+}
+
+/// The command of these words on the file, with a list of tests.
+fn check_listed<'a>(name: &str, option: &str, list: &str, file: &'a str) -> Option<Command<'a>>
+    requires { IsFileName file.now }
+    ensures found { IfSome result (λ command.
+        AreWordsOf command (name.now ∷ option.now ∷ list.now ∷ file.now ∷ [])) }
+    ensures none { IfNone result (
+        IsCommand (name.now ∷ option.now ∷ list.now ∷ file.now ∷ []) → ⊥) }
+{
+    if name != "check" || option != "--tests" {
+        return None;
+    }
+    let tests = TestSet::read(list)?;
+    let file = FileName { name: file };
+    Some(Command::Check { tests, file })
 }
 
 /// The same words are one command, with one list of tests, on one file.

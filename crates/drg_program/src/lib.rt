@@ -1,38 +1,41 @@
 //! The program as one call, over whatever inputs and sink are handed in.
 //!
-//! [`run`] reads the words of a command and its file, and writes one report. Its contract says what
-//! each [`Status`] means of the input, when each refusal comes, and which bytes were written.
-//! The words stand in `specs/Words.antt`, what `check` finds of an array in `specs/Check.antt`, what
-//! `replay` finds of a derivation in `specs/Replay.antt` with its texts in `specs/Report.antt`, and how
-//! these make the answer of a run in `specs/Run.antt`. The verdicts on an array and their texts are
-//! those of `drg_engine` and `drg_report`.
+//! [`run`] reads the words of a command and its file, and writes what the command finds. Its contract
+//! says what each [`Status`] means of the input, when each refusal comes, and which bytes were written.
+//! The words stand in `specs/Words.antt`, the input and why it can't be had in `specs/Input.antt`, what
+//! `check` finds of an array in `specs/Check.antt`, what `replay` finds of a derivation in
+//! `specs/Replay.antt` with its line in `specs/AnswerText.antt`, and how these make the answer of a run in
+//! `specs/Run.antt`. The verdicts on an array and their texts are those of `drg_engine` and `drg_report`.
+//!
+//! A command is one variant of `Command`, with its options and its file, and one case in each definition
+//! by commands. It reads its file itself, whole or in pieces, and ends with an output or a refusal.
 #![tactic(auto)]
 
+mod answer_text;
 mod check;
 mod command;
 mod input;
+mod output;
 mod replay;
-mod report;
 mod status;
 
 ghost use Rattle.std.specs.Prelude.{◌≡◌, ◌≢◌, ◌≤◌, ◌⊎◌, ◌↔◌, ℕ, List};
 ghost use Rattle.drg_outside.specs.Causes.{Rose};
-ghost use Rattle.drg_outside.specs.Files.{IsMissing};
-ghost use Rattle.drg_program.specs.Run.{Answers, AreBytesOf, Decides, IsTold, Reports};
+ghost use Rattle.drg_program.specs.Input.{AreInputOf, HasCauses, IsFileMissing, IsToldInput};
+ghost use Rattle.drg_program.specs.Run.{Answers, Decides, Ends};
 ghost use Rattle.drg_program.specs.Statuses.{IsEarly};
-ghost use Rattle.drg_program.specs.Words.{IsCommand, IsCommandOn, words_of};
+ghost use Rattle.drg_program.specs.Words.{AreWordsOf, IsCommand, file_of, words_of};
 
 use check::check;
 pub use command::words_law;
 use command::{Command, command_of};
 use drg_outside::{Inputs, Sink, write_all};
-use input::{InputFault, read_input};
-use replay::replay_input;
-use report::{Report, ReportFault};
+use output::{Output, Refusal};
+use replay::replay_file;
 pub use status::Status;
 use std::alloc::Global;
 
-/// The longest input in bytes.
+/// The longest input in bytes: 64 MiB.
 pub const INPUT_LIMIT: usize = 67_108_864;
 
 /// Runs the command of these words, which are those after the program's name.
@@ -49,94 +52,108 @@ pub fn run<I: Inputs, K: Sink>(
     inputs: &mut I,
     sink: &mut K,
 ) -> Status
-    // Other words than those of a command are refused, and nothing is opened then.
-    ensures usage { (result ≡ Status.Usage) ↔ (IsCommand (words_of words.now) → ⊥) }
-    ensures command { result ≢ Status.Usage → IsCommand (words_of words.now) }
-    ensures unopened { result ≡ Status.Usage → inputs.new ≡ inputs.old }
+    // Exactly other words than those of a command are refused as such, where memory suffices, and
+    // nothing is opened then.
+    ensures usage { result ≢ Status.Memory
+        → ((result ≡ Status.Usage) ↔ (IsCommand (words_of words.now) → ⊥)) }
+    ensures command { result ≢ Status.Memory → result ≢ Status.Usage
+        → IsCommand (words_of words.now) }
+    ensures unopened { (IsCommand (words_of words.now) → ⊥) → inputs.new ≡ inputs.old }
 
     // Each fault has its cause, and no count of faults falls.
-    ensures open { result ≡ Status.OpenFault → Rose (I.open_faults inputs.old) (I.open_faults inputs.new)
-        ⊎ ((command : Command) × (file : List ℕ) × IsCommandOn command file (words_of words.now)
-        × IsMissing (I.files inputs.old) file) }
-    ensures missing { (command : Command) (file : List ℕ) → IsCommandOn command file (words_of words.now)
-        → IsMissing (I.files inputs.old) file → result ≡ Status.OpenFault }
-    ensures read { result ≡ Status.ReadFault → Rose (I.read_faults inputs.old) (I.read_faults inputs.new) }
+    ensures open { result ≡ Status.OpenFault
+        → Rose (I.open_faults inputs.old) (I.open_faults inputs.new)
+        ⊎ ((command : Command) × AreWordsOf command (words_of words.now)
+        × IsFileMissing (I.files inputs.old) (file_of command)) }
+    ensures missing { (command : Command) → AreWordsOf command (words_of words.now)
+        → IsFileMissing (I.files inputs.old) (file_of command)
+        → (result ≡ Status.OpenFault) ⊎ (result ≡ Status.Memory) }
+    ensures read { result ≡ Status.ReadFault
+        → Rose (I.read_faults inputs.old) (I.read_faults inputs.new) }
     ensures write { result ≡ Status.WriteFault → Rose (K.faults sink.old) (K.faults sink.new) }
     ensures later_open { I.open_faults inputs.old ≤ I.open_faults inputs.new }
     ensures later_read { I.read_faults inputs.old ≤ I.read_faults inputs.new }
     ensures later_write { K.faults sink.old ≤ K.faults sink.new }
     ensures same_files { I.files inputs.new ≡ I.files inputs.old }
 
-    // Nothing is written before the whole report stands.
+    // Nothing is written before the whole text stands.
     ensures unwritten { IsEarly result → sink.new ≡ sink.old }
 
     // What the status says of the bytes of the input, and of what was written. Where the files are
-    // told, the bytes are those of the file.
-    ensures answer { (command : Command) (file : List ℕ) → IsCommandOn command file (words_of words.now)
-        → (bytes : List ℕ) × AreBytesOf (I.files inputs.old) file bytes
+    // told, the bytes are those of the file; a command that reads no file has none.
+    ensures answer { (command : Command) → AreWordsOf command (words_of words.now)
+        → (bytes : List ℕ) × AreInputOf (I.files inputs.old) (file_of command) bytes
         × Answers command bytes result (K.bytes sink.old) (K.bytes sink.new) }
 
     // Where the bytes are told and no count rose, they decide the status, up to want of memory.
-    ensures complete { (command : Command) (file bytes : List ℕ) → IsCommandOn command file (words_of words.now)
-        → IsTold (I.files inputs.old) file bytes
+    ensures complete { (command : Command) (bytes : List ℕ) → AreWordsOf command (words_of words.now)
+        → IsToldInput (I.files inputs.old) (file_of command) bytes
         → (Rose (I.open_faults inputs.old) (I.open_faults inputs.new) → ⊥)
         → (Rose (I.read_faults inputs.old) (I.read_faults inputs.new) → ⊥)
         → (Rose (K.faults sink.old) (K.faults sink.new) → ⊥)
         → result ≢ Status.Memory → Decides command bytes result }
 {
     match command_of(words) {
-        Some((command, file)) => answer(alloc, command, file, inputs, sink),
+        Some(command) => carry_out(alloc, &command, inputs, sink),
         None => Status::Usage,
     }
 }
 
-/// Reads the file, and writes the command's report on it.
-fn answer<I: Inputs, K: Sink>(
+/// Carries the command out, and writes its text.
+fn carry_out<I: Inputs, K: Sink>(
     alloc: Global,
-    command: Command,
-    file: &str,
+    command: &Command<'_>,
     inputs: &mut I,
     sink: &mut K,
 ) -> Status
     ensures usage { result ≢ Status.Usage }
-    ensures open { result ≡ Status.OpenFault → Rose (I.open_faults inputs.old) (I.open_faults inputs.new)
-        ⊎ IsMissing (I.files inputs.old) file.now }
-    ensures missing { IsMissing (I.files inputs.old) file.now → result ≡ Status.OpenFault }
-    ensures read { result ≡ Status.ReadFault → Rose (I.read_faults inputs.old) (I.read_faults inputs.new) }
+    ensures open { result ≡ Status.OpenFault
+        → Rose (I.open_faults inputs.old) (I.open_faults inputs.new)
+        ⊎ IsFileMissing (I.files inputs.old) (file_of command.now) }
+    ensures missing { IsFileMissing (I.files inputs.old) (file_of command.now)
+        → (result ≡ Status.OpenFault) ⊎ (result ≡ Status.Memory) }
+    ensures read { result ≡ Status.ReadFault
+        → Rose (I.read_faults inputs.old) (I.read_faults inputs.new) }
     ensures write { result ≡ Status.WriteFault → Rose (K.faults sink.old) (K.faults sink.new) }
     ensures later_open { I.open_faults inputs.old ≤ I.open_faults inputs.new }
     ensures later_read { I.read_faults inputs.old ≤ I.read_faults inputs.new }
     ensures later_write { K.faults sink.old ≤ K.faults sink.new }
     ensures same_files { I.files inputs.new ≡ I.files inputs.old }
     ensures unwritten { IsEarly result → sink.new ≡ sink.old }
-    ensures answer { (bytes : List ℕ) × AreBytesOf (I.files inputs.old) file.now bytes
-        × Answers command bytes result (K.bytes sink.old) (K.bytes sink.new) }
+    ensures answer { (bytes : List ℕ) × AreInputOf (I.files inputs.old) (file_of command.now) bytes
+        × Answers command.now bytes result (K.bytes sink.old) (K.bytes sink.new) }
 {
-    let bytes = match read_input(alloc, inputs, file) {
-        Ok(bytes) => bytes,
-        Err(InputFault::Open) => return Status::OpenFault,
-        Err(InputFault::Read) => return Status::ReadFault,
-        Err(InputFault::TooLong) => return Status::TooLong,
-        Err(InputFault::Memory) => return Status::Memory,
+    let output = match output_of(alloc, command, inputs) {
+        Ok(output) => output,
+        Err(Refusal::BadInput { line, at }) => return Status::BadInput { line, at },
+        Err(Refusal::TooLong) => return Status::TooLong,
+        Err(Refusal::OpenFault) => return Status::OpenFault,
+        Err(Refusal::ReadFault) => return Status::ReadFault,
+        Err(Refusal::Memory) => return Status::Memory,
     };
-    let report = match report_of(alloc, command, &bytes) {
-        Ok(report) => report,
-        Err(ReportFault::BadInput { line, at }) => return Status::BadInput { line, at },
-        Err(ReportFault::Memory) => return Status::Memory,
-    };
-    match write_all(sink, &report.text) {
-        Ok(()) => report.status,
+    match write_all(sink, &output.text) {
+        Ok(()) => output.status,
         Err(_) => Status::WriteFault,
     }
 }
 
-/// The command's report on these bytes.
-fn report_of(alloc: Global, command: Command, bytes: &[u8]) -> Result<Report, ReportFault>
-    ensures { Reports command bytes.now result }
+/// The command's status and text, over the inputs.
+fn output_of<I: Inputs>(
+    alloc: Global,
+    command: &Command<'_>,
+    inputs: &mut I,
+) -> Result<Output, Refusal>
+    ensures output { (bytes : List ℕ)
+        × AreInputOf (I.files inputs.old) (file_of command.now) bytes
+        × Ends command.now bytes result }
+    ensures causes { HasCauses (file_of command.now) (I.files inputs.old)
+        (I.open_faults inputs.old) (I.open_faults inputs.new)
+        (I.read_faults inputs.old) (I.read_faults inputs.new) result }
+    ensures same_files { I.files inputs.new ≡ I.files inputs.old }
 {
     match command {
-        Command::Check { tests } => check(alloc, bytes, &tests),
-        Command::Replay => replay_input(alloc, bytes),
+        Command::Check { tests, file } => check(alloc, inputs, file, tests),
+        Command::Replay { file } => replay_file(alloc, inputs, file),
     }
 }
 

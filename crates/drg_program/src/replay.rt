@@ -1,47 +1,67 @@
-ghost use Rattle.std.specs.Prelude.{IfOk};
+ghost use Rattle.std.specs.Prelude.{◌≡◌, ℕ, List, Some, IfOk};
+ghost use Rattle.drg_program.specs.Input.{AreBytesOf, HasCauses};
 ghost use Rattle.drg_program.specs.Replay.{Concludes, Tells};
-ghost use Rattle.drg_program.specs.Run.{Reports};
+ghost use Rattle.drg_program.specs.Run.{Ends, Finds};
 ghost use Rattle.drg_program.specs.declared.command.Command.TheVariants.{Replay};
 
 use crate::Status;
-use crate::report::{Report, ReportFault, write_accepted, write_open, write_rejected, write_wide};
+use crate::answer_text::{write_accepted, write_open, write_rejected, write_wide};
+use crate::command::FileName;
+use crate::input::read_input;
+use crate::output::{Output, Refusal};
 use drg_array::{Claim, Class};
 use drg_derivation::{Derivation, DerivationFault, read, refusal_law};
+use drg_outside::Inputs;
 use drg_replay::{ReplayFault, replay};
 use std::alloc::{AllocError, Global};
 
-/// Answers the derivation at the front of the input.
-pub fn replay_input(alloc: Global, bytes: &[u8]) -> Result<Report, ReportFault>
-    ensures { Reports Replay bytes.now result }
+/// Answers the derivation at the front of the file.
+pub fn replay_file<I: Inputs>(
+    alloc: Global,
+    inputs: &mut I,
+    file: &FileName<'_>,
+) -> Result<Output, Refusal>
+    ensures output { (bytes : List ℕ) × AreBytesOf (I.files inputs.old) file.now bytes
+        × Ends (Replay file.now) bytes result }
+    ensures causes { HasCauses (Some file.now) (I.files inputs.old)
+        (I.open_faults inputs.old) (I.open_faults inputs.new)
+        (I.read_faults inputs.old) (I.read_faults inputs.new) result }
+    ensures same_files { I.files inputs.new ≡ I.files inputs.old }
+{
+    let bytes = read_input(alloc, inputs, file.as_str())?;
+    replay_text(alloc, &bytes)
+}
+
+/// Answers the derivation at the front of these bytes.
+fn replay_text(alloc: Global, bytes: &[u8]) -> Result<Output, Refusal>
+    ensures { (file : List ℕ) → Finds (Replay file) bytes.now result }
 {
     refusal_law();
     let (derivation, _) = match read(alloc, bytes) {
         Ok(found) => found,
-        Err(DerivationFault::BadText { line }) => {
-            return Err(ReportFault::BadInput { line, at: 0 });
-        }
-        Err(DerivationFault::Memory) => return Err(ReportFault::Memory),
+        Err(DerivationFault::BadText { line }) => return Err(Refusal::BadInput { line, at: 0 }),
+        Err(DerivationFault::Memory) => return Err(Refusal::Memory),
     };
-    let report = conclude(alloc, &derivation)?;
-    Ok(report)
+    let output = conclude(alloc, &derivation)?;
+    Ok(output)
 }
 
-/// The report of the derivation's answer.
-fn conclude(alloc: Global, derivation: &Derivation) -> Result<Report, AllocError>
-    ensures { IfOk result (λ report. Concludes derivation.now report.status report.text.items) }
+/// The status and the line of the derivation's answer.
+fn conclude(alloc: Global, derivation: &Derivation) -> Result<Output, AllocError>
+    ensures { IfOk result (λ output. Concludes derivation.now output.status output.text.items) }
 {
     let answer = replay(alloc, derivation);
-    let report = tell(alloc, derivation.claim, answer)?;
-    Ok(report)
+    let output = tell(alloc, derivation.claim, answer)?;
+    Ok(output)
 }
 
-/// The report of an answer on this claim.
+/// The status and the line of an answer on this claim.
 fn tell(
     alloc: Global,
     claim: Claim,
     answer: Result<Class, ReplayFault>,
-) -> Result<Report, AllocError>
-    ensures { IfOk result (λ report. Tells claim answer report.status report.text.items) }
+) -> Result<Output, AllocError>
+    ensures { IfOk result (λ output. Tells claim answer output.status output.text.items) }
 {
     let mut text = Vec::new(alloc);
     let status = match answer {
@@ -63,5 +83,5 @@ fn tell(
         }
         Err(ReplayFault::Memory) => return Err(AllocError),
     };
-    Ok(Report { status, text })
+    Ok(Output { status, text })
 }

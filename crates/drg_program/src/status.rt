@@ -10,13 +10,18 @@ pub enum Status {
     Survivor,
     /// The array fails a test, and the report derives it.
     Infeasible,
+    /// A test can't be decided, since the eigenvalues don't lie in one quadratic field, and no other
+    /// test is found false. No command answers it yet.
+    RefusedSpectrum,
+    /// A number on which the answer rests is too wide to be computed: a size or an intersection number
+    /// of the array, or a work number of a line of the derivation.
+    Undecided,
     /// Each line of the derivation is met, and it closes its claim.
     Accepted,
     /// A line of the derivation isn't met, or its claim isn't closed at the end.
     Rejected,
-    /// A number on which the answer rests is too wide to be computed: a size or an intersection number
-    /// of the array, or a work number of a line of the derivation.
-    Undecided,
+    /// What was asked for is written whole, and there is no verdict to tell. No command answers it yet.
+    Done,
     /// The words are no command.
     Usage,
     /// The input isn't in the grammar. Line and place are counted from 1; place 0 is the whole line.
@@ -39,11 +44,11 @@ impl Status {
         ensures { result ≡ exit_of self }
     {
         match self {
-            Status::Survivor => 0,
+            Status::Survivor | Status::Accepted | Status::Done => 0,
             Status::Infeasible => 1,
-            Status::Accepted => 0,
-            Status::Rejected => 5,
+            Status::RefusedSpectrum => 2,
             Status::Undecided => 3,
+            Status::Rejected => 5,
             Status::Usage => 64,
             Status::BadInput { .. } => 65,
             Status::TooLong => 66,
@@ -58,13 +63,15 @@ impl Status {
     pub fn is_refusal(self) -> bool
         ensures { IsTrue result ↔ IsRefusal self }
     {
-        !matches!(
+        matches!(
             self,
-            Status::Survivor
-                | Status::Infeasible
-                | Status::Accepted
-                | Status::Rejected
-                | Status::Undecided
+            Status::Usage
+                | Status::BadInput { .. }
+                | Status::TooLong
+                | Status::OpenFault
+                | Status::ReadFault
+                | Status::WriteFault
+                | Status::Memory
         )
     }
 }
@@ -76,9 +83,11 @@ impl fmt::Display for Status {
         match self {
             Status::Survivor => f.write_str("survivor"),
             Status::Infeasible => f.write_str("infeasible"),
+            Status::RefusedSpectrum => f.write_str("refused-spectrum"),
+            Status::Undecided => f.write_str("undecided"),
             Status::Accepted => f.write_str("accepted"),
             Status::Rejected => f.write_str("rejected"),
-            Status::Undecided => f.write_str("undecided"),
+            Status::Done => f.write_str("done"),
             Status::Usage => f.write_str("usage"),
             Status::BadInput { line, at } => write!(f, "bad input, line {line}, place {at}"),
             Status::TooLong => f.write_str("input too long"),

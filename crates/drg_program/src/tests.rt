@@ -1,4 +1,4 @@
-use crate::{INPUT_LIMIT, Status, run};
+use crate::{Status, run};
 use drg_outside::{MemInputs, MemSink};
 use std::alloc::Global;
 use std::test::Fail;
@@ -361,24 +361,17 @@ fn status_on_spaces(alloc: Global, command: &str, length: usize) -> Result<Statu
 }
 
 #[test]
-fn the_longest_input(rt: HostRuntime) -> Result<(), Fail> {
-    let status = status_on_spaces(rt.alloc(), "check", INPUT_LIMIT)?;
-    let at = INPUT_LIMIT as u64 + 1;
-    assert_eq!(rt; status, Status::BadInput { line: 1, at });
-    Ok(())
-}
-
-#[test]
-fn an_array_past_the_limit(rt: HostRuntime) -> Result<(), Fail> {
-    let status = status_on_spaces(rt.alloc(), "check", INPUT_LIMIT + 1)?;
-    assert_eq!(rt; status, Status::TooLong);
-    Ok(())
-}
-
-#[test]
-fn a_derivation_past_the_limit(rt: HostRuntime) -> Result<(), Fail> {
-    let status = status_on_spaces(rt.alloc(), "replay", INPUT_LIMIT + 1)?;
-    assert_eq!(rt; status, Status::TooLong);
+fn inputs_around_the_limit(rt: HostRuntime) -> Result<(), Fail> {
+    let at = 67_108_865;
+    let cases = [
+        ("check", 67_108_864, Status::BadInput { line: 1, at }),
+        ("check", 67_108_865, Status::TooLong),
+        ("replay", 67_108_865, Status::TooLong),
+    ];
+    for (command, length, status) in cases {
+        let answer = status_on_spaces(rt.alloc(), command, length)?;
+        assert_eq!(rt; answer, status, "{command} {length}");
+    }
     Ok(())
 }
 
@@ -388,9 +381,11 @@ fn lines_and_exit_numbers(rt: HostRuntime) -> Result<(), Fail> {
     let cases = [
         (Status::Survivor, 0, "survivor"),
         (Status::Infeasible, 1, "infeasible"),
+        (Status::RefusedSpectrum, 2, "refused-spectrum"),
+        (Status::Undecided, 3, "undecided"),
         (Status::Accepted, 0, "accepted"),
         (Status::Rejected, 5, "rejected"),
-        (Status::Undecided, 3, "undecided"),
+        (Status::Done, 0, "done"),
         (Status::Usage, 64, "usage"),
         (
             Status::BadInput { line: 12, at: 7 },

@@ -1,5 +1,5 @@
 use Rattle.std.proofs.Common.{sym, ap, Err}
-use Rattle.drg_program.specs.declared.TheConstants.{INPUT_LIMIT}
+use Rattle.drg_program.specs.Input.{input_limit}
 use Rattle.drg_program.proofs.InputLemmas.{some_bytes, long_input}
 use Rattle.drg_program.proofs.input.read_input.Goals as goal
 
@@ -10,5 +10,5 @@ returns-then-is_err-clause-bytes g c =
 
 pub returns-in-Err-TooLong-clause-bytes : goal.returns-in-Err-TooLong-clause-bytes
 returns-in-Err-TooLong-clause-bytes g c =
-    long_input (g.I.Inputs.files c.args.inputs.now) _ _ c.args.name.now INPUT_LIMIT c.open.result (sym c.if-is_err.ensures.value) c.open.ensures.bytes
+    long_input (g.I.Inputs.files c.args.inputs.now) _ _ c.args.name.now input_limit c.open.result (sym c.if-is_err.ensures.value) c.open.ensures.bytes
     (c.in-Err-TooLong.ensures.too_long_takes (ap Err c.in-Err-TooLong.field-0-is))

@@ -1,5 +1,5 @@
 use Rattle.std.proofs.Common.{append_assoc}
-use Rattle.drg_program.proofs.report.write_number.Goals as goal
+use Rattle.drg_program.proofs.answer_text.write_number.Goals as goal
 
 pub returns : goal.returns
 returns c =

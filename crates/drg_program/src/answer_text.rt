@@ -1,34 +1,12 @@
-ghost use Rattle.std.specs.Prelude.{◌≡◌, ◌++◌, OnOk};
-ghost use Rattle.drg_program.specs.Report.{accepted_text, number_line, open_text, rejected_text, wide_text};
-ghost use Rattle.drg_program.specs.declared.report.ReportFault.TheVariants.{Memory};
+//! The line that is written for the answer to a derivation.
 
-use crate::Status;
+ghost use Rattle.std.specs.Prelude.{◌≡◌, ◌++◌, OnOk};
+ghost use Rattle.drg_program.specs.AnswerText.{accepted_text, number_line, open_text, rejected_text, wide_text};
+
 use drg_array::{Claim, Class};
 use drg_report::write_claim_words;
 use itoa::Buffer;
 use std::alloc::AllocError;
-
-/// What a command found, and what it writes.
-#[derive(Drop)]
-pub struct Report {
-    pub status: Status,
-    pub text: Vec<u8>,
-}
-
-/// Why an input has no report.
-#[derive(Clone, Copy, Debug, PartialEq, Eq)]
-pub enum ReportFault {
-    BadInput { line: u64, at: u64 },
-    Memory,
-}
-
-impl From<AllocError> for ReportFault {
-    ghost from_gives = { λ _ fault. fault ≡ Memory };
-
-    fn from(_error: AllocError) -> ReportFault {
-        ReportFault::Memory
-    }
-}
 
 /// Appends the answer to a derivation that is accepted.
 pub fn write_accepted(claim: Claim, class: Class, out: &mut Vec<u8>) -> Result<(), AllocError>
