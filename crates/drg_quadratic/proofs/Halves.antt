@@ -12,7 +12,7 @@ use Rattle.drg_quadratic.specs.Laws.{is_its_parts}
 pub half_of_nil : ratio (pos 0) (pos 2) ≡ whole (pos 0)
 half_of_nil = ratio_same (pos 0) (pos 2) (pos 0) (pos 1) (record { lt = tt }) (record { lt = tt }) refl ∙ ratio_one (pos 0)
 
-double : (n : ℤ) → Rational.plus (ratio n (pos 2)) (ratio n (pos 2)) ≡ whole n
+pub double : (n : ℤ) → Rational.plus (ratio n (pos 2)) (ratio n (pos 2)) ≡ whole n
 double n = two_halves n n ∙ ring2 rationals (λ a b. a ⊕ a ⊗ none) (λ a b. a) refl (whole n) (whole n)
 
 -- twice s/2 + f/2 √root is s + f √root

@@ -1,5 +1,6 @@
 pub mod Halves
 pub mod Quotients
-pub mod Signs
 pub mod Texts
 pub mod SmallRoots
+pub mod TrialDivision
+pub mod EigenvalueValues

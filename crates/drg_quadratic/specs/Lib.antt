@@ -3,5 +3,8 @@ pub mod Work
 pub mod Operations
 pub mod Laws
 pub mod ZeroLaws
+pub mod Signs
 pub mod Quadratic
 pub mod Text
+pub mod Eigenvalue
+pub mod EigenvalueLaws

@@ -1,5 +1,6 @@
 -- The values a + b √root of rationals a and b, and their inverses. Over root 0 the values are the rationals a.
-use Rattle.std.specs.Prelude.{◌≡◌, ℕ, zero, suc, ◌<◌, pos}
+use Rattle.std.specs.Prelude.{◌≡◌, ℕ, ℤ, zero, suc, ◌<◌, pos}
+use lib.IntN.{ℤ_set}
 use native.Mathlib.Bridge.{le_prop}
 use Rattle.drg_algebra.specs.Rational.{ℚ, ℚ_set, whole, rational_numbers}
 use Rattle.drg_algebra.specs.Rational as Rational
@@ -25,6 +26,9 @@ IsOver root z = root ≡ 0 → z.b ≡ whole (pos 0)
 
 pub flat_prop : (root : ℕ) (b : ℚ) → IsProp (root ≡ 0 → b ≡ whole (pos 0))
 flat_prop root b = hlevel ℚ_set
+
+pub none_prop : (root : ℕ) (f : ℤ) → IsProp (root ≡ 0 → f ≡ pos 0)
+none_prop root f = hlevel ℤ_set
 
 -- sums and negatives are those of the parts, whatever the root
 abbrev pub nil : Value

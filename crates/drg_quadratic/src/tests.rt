@@ -1,7 +1,7 @@
 ghost use Rattle.std.specs.Prelude.{◌≡◌, ◌≤◌, unsigned_abs};
 ghost use Rattle.drg_quadratic.specs.Quadratic.{root_of};
 
-use crate::{Quadratic, zero_by_parts};
+use crate::{Eigenvalue, Quadratic, eigenvalues_are_ordered, split_square, zero_by_parts};
 use drg_fraction::{Field, Fraction, Wide, dot, sum, values_are_a_field};
 use std::alloc::{AllocError, Global};
 use std::cmp::Ordering;
@@ -131,4 +131,68 @@ fn sums_of_lists(rt: HostRuntime) {
     let right = [over_two(1, -1), over_two(0, 1)];
     assert_eq!(rt; shown(sum(2, &left)), Some([1, 1, 2, 1]));
     assert_eq!(rt; shown(dot(2, &left, &right)), Some([1, 1, 0, 1]));
+}
+
+/// The eigenvalue `(s + f√5)/2`.
+fn eigenvalue_over_five(s: i32, f: i32) -> Eigenvalue
+    requires s { unsigned_abs s ≤ 65536 }
+    requires f { unsigned_abs f ≤ 65536 }
+{
+    Eigenvalue::make(s, f, 5)
+}
+
+/// The eigenvalue `s/2`.
+fn rational_eigenvalue(s: i32) -> Eigenvalue
+    requires s { unsigned_abs s ≤ 65536 }
+{
+    Eigenvalue::make(s, 0, 0)
+}
+
+#[test]
+fn eigenvalues(rt: HostRuntime) {
+    eigenvalues_are_ordered();
+    let golden = eigenvalue_over_five(1, 1);
+    for (x, y, order) in [
+        (golden, eigenvalue_over_five(2, 0), Ordering::Greater),
+        (
+            eigenvalue_over_five(1, -1),
+            eigenvalue_over_five(2, 0),
+            Ordering::Less,
+        ),
+        (golden, eigenvalue_over_five(1, 1), Ordering::Equal),
+        (eigenvalue_over_five(3, 0), golden, Ordering::Less),
+        (eigenvalue_over_five(4, 0), golden, Ordering::Greater),
+        (
+            eigenvalue_over_five(65536, -65536),
+            eigenvalue_over_five(-65536, 65536),
+            Ordering::Less,
+        ),
+        (
+            rational_eigenvalue(7),
+            rational_eigenvalue(-7),
+            Ordering::Greater,
+        ),
+        (rational_eigenvalue(7), golden, Ordering::Less),
+    ] {
+        assert_eq!(rt; x.cmp(&y), order);
+        assert_eq!(rt; y.partial_cmp(&x), Some(order.reverse()));
+        assert_eq!(rt; x == y, order == Ordering::Equal);
+    }
+    assert_eq!(rt; (golden.s(), golden.f(), golden.root()), (1, 1, 5));
+}
+
+#[test]
+fn squares(rt: HostRuntime) {
+    for (answer, want) in [
+        (split_square(1), (1, 1)),
+        (split_square(2), (1, 2)),
+        (split_square(4), (2, 1)),
+        (split_square(12), (2, 3)),
+        (split_square(18), (3, 2)),
+        (split_square(4_294_836_225), (65535, 1)),
+        (split_square(4_294_967_291), (1, 4_294_967_291)),
+        (split_square(4_294_967_295), (1, 4_294_967_295)),
+    ] {
+        assert_eq!(rt; answer, want);
+    }
 }

@@ -3,7 +3,7 @@ use Rattle.std.specs.declared.cmp.Ordering.TheVariants.{Less, Greater}
 use Rattle.drg_quadratic.specs.Quadratic.{value_of, root_of}
 use Rattle.drg_quadratic.specs.Values.{norm}
 use Rattle.drg_quadratic.specs.Work.{sign_of, are_opposite}
-use Rattle.drg_quadratic.proofs.Signs.{ValueSign, rational_sign, sign_by_parts, sign_by_norm, sign_by_reverse}
+use Rattle.drg_quadratic.specs.Signs.{ValueSign, rational_sign, sign_by_parts, sign_by_norm, sign_by_reverse}
 use Rattle.drg_quadratic.proofs.quadratic.QuadraticField.sign.Goals as goal
 
 pub returns-in_ok-norm-in-Greater-Less-clause-value :

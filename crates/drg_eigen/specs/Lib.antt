@@ -1,0 +1,15 @@
+pub mod Polynomial
+pub mod Recurrence
+pub mod RecurrenceLaws
+pub mod Characteristic
+pub mod Factor
+pub mod Division
+pub mod Step
+pub mod Spectrum
+pub mod FactorLaws
+pub mod Monic
+pub mod Fits
+pub mod Work
+pub mod FaultLaws
+pub mod Examples
+pub mod FullExamples

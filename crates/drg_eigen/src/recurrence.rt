@@ -1,0 +1,113 @@
+//! The recurrence of the polynomials of an array.
+
+ghost use Rattle.std.specs.Prelude.{◌≡◌, ◌≤◌, ◌<◌, suc, IfOk, IfErr};
+ghost use Rattle.std.specs.List.{AllByRecursion};
+ghost use Rattle.drg_array.specs.Entries.{diameter};
+ghost use Rattle.drg_array.specs.declared.node.Node.TheVariants as node;
+ghost use Rattle.drg_eigen.specs.Characteristic.{characteristic as the_characteristic, polynomial};
+ghost use Rattle.drg_eigen.specs.Fits.{AllFit, AllFitBelow, IsFault, coefficient as the_coefficient, coefficient_before as the_coefficient_before, next_coefficient as the_next_coefficient};
+ghost use Rattle.drg_eigen.specs.Monic.{IsInRange};
+ghost use Rattle.drg_eigen.specs.Work.{Gives, next_fits};
+ghost use Rattle.drg_eigen.specs.declared.fault.EigenFault.TheVariants.{Wide};
+
+use crate::fault::EigenFault;
+use crate::poly::Poly;
+use crate::work::{minus_product, times};
+use drg_array::{Array, Node};
+use std::alloc::Global;
+
+/// The characteristic polynomial F_(d+1) of the array, where d is its diameter. A fault names the first
+/// F_j with a product or a difference above 2^127 - 1 in magnitude.
+pub fn characteristic(alloc: Global, array: &Array) -> Result<Poly, EigenFault>
+    ensures polynomial { IfOk result (λ p. p ≡ the_characteristic array.now) }
+    ensures fits { IfOk result (λ p. AllFit array.now) }
+    ensures fault { IfErr result (IsFault array.now) }
+{
+    let mut before = Vec::from_slice(alloc, &[1i128])?;
+    let mut last = Vec::from_slice(alloc, &[0i128, 1])?;
+    'polynomials: for j in 0..array.d() {
+        let next = next_polynomial(alloc, array, j, &before, &last)?;
+        before = last;
+        last = next;
+    }
+    Ok(Poly::of_coefficients(last))
+}
+
+/// F_(j+2), from F_j and F_(j+1).
+fn next_polynomial(
+    alloc: Global,
+    array: &Array,
+    j: usize,
+    before: &[i128],
+    last: &[i128],
+) -> Result<Vec<i128>, EigenFault>
+    requires inside { j < diameter array.now }
+    requires before { before.now ≡ polynomial array.now j }
+    requires last { last.now ≡ polynomial array.now (suc j) }
+    requires reached { AllFitBelow array.now (suc (suc j)) }
+    ensures next { IfOk result (λ next. next.items ≡ polynomial array.now (suc (suc j))) }
+    ensures in_range { IfOk result (λ next. AllByRecursion IsInRange next.items) }
+    ensures reached { IfOk result (λ next. AllFitBelow array.now (suc (suc (suc j)))) }
+    ensures fault { IfErr result (IsFault array.now) }
+{
+    let _ = array.d();
+    let mut next = Vec::new(alloc);
+    'coefficients: for t in 0..j + 3 {
+        let Some(coefficient) = next_coefficient(array, j, before, last, t) else {
+            return Err(wide(j + 2));
+        };
+        next.push(coefficient)?;
+    }
+    Ok(next)
+}
+
+/// The fault that names F_j.
+fn wide(j: usize) -> EigenFault
+    requires { j < 256 }
+    ensures { result ≡ Wide (node.Poly j) }
+{
+    EigenFault::Wide {
+        node: Node::Poly { j: j as u8 },
+    }
+}
+
+/// The coefficient of x^t in F_(j+2), from F_j and F_(j+1), where all its products and differences are
+/// in range.
+fn next_coefficient(
+    array: &Array,
+    j: usize,
+    before: &[i128],
+    last: &[i128],
+    t: usize,
+) -> Option<i128>
+    requires inside { j < diameter array.now }
+    ensures { Gives result (next_fits array.now j before.now last.now t)
+        (the_next_coefficient array.now j before.now last.now t) }
+{
+    let _ = array.d();
+    let a = i128::from(array.a(j + 1));
+    let first = minus_product(coefficient_before(last, t), a, coefficient(last, t))?;
+    let weight = times(i128::from(array.b(j)), i128::from(array.c(j + 1)))?;
+    minus_product(first, weight, coefficient(before, t))
+}
+
+/// The coefficient of x^t, and 0 past the last one.
+fn coefficient(polynomial: &[i128], t: usize) -> i128
+    ensures { result ≡ the_coefficient polynomial.now t }
+{
+    if t < polynomial.len() {
+        polynomial[t]
+    } else {
+        0
+    }
+}
+
+/// The coefficient of x^(t-1), and 0 for t = 0.
+fn coefficient_before(polynomial: &[i128], t: usize) -> i128
+    ensures { result ≡ the_coefficient_before polynomial.now t }
+{
+    if t == 0 {
+        return 0;
+    }
+    coefficient(polynomial, t - 1)
+}
