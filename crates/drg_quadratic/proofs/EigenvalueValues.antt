@@ -33,7 +33,7 @@ half_positive root h z w o e p = go ((value_laws root h).positive_or_not z o)
 pub twice_eigenvalue : TwiceEigenvalue
 twice_eigenvalue x = pair_path _ _ (double x.s) (double x.f)
 
-value_over : (x : Eigenvalue) → IsOver x.root (eigenvalue_of x)
+pub value_over : (x : Eigenvalue) → IsOver x.root (eigenvalue_of x)
 value_over x = λ r. ap (λ n. ratio n (pos 2)) (x.flat r) ∙ half_of_nil
 
 less_by_value : (x y : Eigenvalue) → x.root ≡ y.root → IsPositive y.root (twice_difference y x) → IsPositive y.root (difference y x)

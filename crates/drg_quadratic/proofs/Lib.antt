@@ -4,3 +4,7 @@ pub mod Texts
 pub mod SmallRoots
 pub mod TrialDivision
 pub mod EigenvalueValues
+pub mod Embedded
+pub mod EigenvalueFields
+pub mod SmallParts
+pub mod Comparisons

@@ -8,3 +8,4 @@ pub mod Quadratic
 pub mod Text
 pub mod Eigenvalue
 pub mod EigenvalueLaws
+pub mod EigenvalueFields

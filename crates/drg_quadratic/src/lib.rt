@@ -6,14 +6,16 @@
 //! memory but `Quadratic::write_text`.
 //!
 //! An `Eigenvalue` is a value `(s + f√root)/2` with small whole s and f. Eigenvalues have an exact
-//! equality and order, by root first and then by value. `split_square` writes a number as `f²·root`
-//! with a squarefree root.
+//! equality and order, by root first and then by value. In each exact field over the root their values
+//! descend where they do, and comparing two by the sign of a difference is never `Wide`.
+//! `split_square` writes a number as `f²·root` with a squarefree root.
 //!
 //! The values and their operations stand in `specs/Values.antt`, on the ring and the order of
 //! `drg_algebra`; which operations on fractions each of them takes, in `specs/Work.antt`; the value of a
 //! `Quadratic` in `specs/Quadratic.antt`, the operations as those of an exact field in
 //! `specs/Operations.antt`, the laws of an exact field in `specs/Laws.antt`, and the text in
-//! `specs/Text.antt`. The value and the order of an `Eigenvalue` stand in `specs/Eigenvalue.antt`.
+//! `specs/Text.antt`. The value and the order of an `Eigenvalue` stand in `specs/Eigenvalue.antt`, and
+//! its values in exact fields in `specs/EigenvalueFields.antt`.
 #![tactic(auto)]
 
 mod eigenvalue;
@@ -26,6 +28,6 @@ mod tests;
 mod text;
 
 pub use eigenvalue::Eigenvalue;
-pub use laws::{eigenvalues_are_ordered, zero_by_parts};
+pub use laws::{comparisons_fit, eigenvalues_are_ordered, values_descend, zero_by_parts};
 pub use quadratic::Quadratic;
 pub use squares::split_square;

@@ -1,7 +1,10 @@
 ghost use Rattle.std.specs.Prelude.{◌≡◌, ◌≤◌, unsigned_abs};
 ghost use Rattle.drg_quadratic.specs.Quadratic.{root_of};
 
-use crate::{Eigenvalue, Quadratic, eigenvalues_are_ordered, split_square, zero_by_parts};
+use crate::{
+    Eigenvalue, Quadratic, comparisons_fit, eigenvalues_are_ordered, split_square, values_descend,
+    zero_by_parts,
+};
 use drg_fraction::{Field, Fraction, Wide, dot, sum, values_are_a_field};
 use std::alloc::{AllocError, Global};
 use std::cmp::Ordering;
@@ -151,6 +154,9 @@ fn rational_eigenvalue(s: i32) -> Eigenvalue
 #[test]
 fn eigenvalues(rt: HostRuntime) {
     eigenvalues_are_ordered();
+    values_descend::<Fraction>();
+    values_descend::<Quadratic>();
+    comparisons_fit();
     let golden = eigenvalue_over_five(1, 1);
     for (x, y, order) in [
         (golden, eigenvalue_over_five(2, 0), Ordering::Greater),
@@ -189,6 +195,7 @@ fn squares(rt: HostRuntime) {
         (split_square(4), (2, 1)),
         (split_square(12), (2, 3)),
         (split_square(18), (3, 2)),
+        (split_square(72), (6, 2)),
         (split_square(4_294_836_225), (65535, 1)),
         (split_square(4_294_967_291), (1, 4_294_967_291)),
         (split_square(4_294_967_295), (1, 4_294_967_295)),
