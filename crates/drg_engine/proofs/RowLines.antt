@@ -15,7 +15,7 @@ use Rattle.drg_intersection.proofs.Ranges.{one_whole, sum_out}
 use Rattle.drg_intersection.proofs.Rows.{no_product, five_terms, product_is, negative_is}
 use Rattle.drg_replay.specs.Steps.{EachHolds}
 use Rattle.drg_replay.specs.Work.{in_range, sum_of, sum_fits, products_of}
-use Rattle.drg_replay.specs.Rows.{entry, entry_before, entry_above, b_before, balance, cells_from, row_steps}
+use Rattle.drg_replay.specs.Rows.{entry, entry_before, entry_above, b_before, balance, balances_from, row_steps}
 use Rattle.drg_replay.proofs.StepLaws.{are_same}
 use Rattle.drg_replay.proofs.RowLaws.{start_entry, entry_front, entry_end, length_more}
 use Rattle.drg_engine.proofs.StepTests.{at_most, above, same_whole, same_fits, sum_in_range}
@@ -31,7 +31,7 @@ record CellStep (a : Entries) (h : ℕ) (rows : List (List ℤ)) (i j : ℕ) (va
   same : int_eq (pos (c_at a (suc i)) *ℤ value) (sum_of (balance a h rows i j)) ≡ true
 
 cells_hold : (a : Entries) (h : ℕ) (rows : List (List ℤ)) (i j : ℕ) (values : List ℤ)
-    → ((k l : ℕ) → l ≡ j + k → k < length values → CellStep a h rows i l (slice_index_or values k (pos 0))) → EachHolds (cells_from a h rows i j values)
+    → ((k l : ℕ) → l ≡ j + k → k < length values → CellStep a h rows i l (slice_index_or values k (pos 0))) → EachHolds (balances_from a h rows i j values)
 cells_hold a h rows i j [] steps = tt
 cells_hold a h rows i j (v ∷ vs) steps =
     let here = steps 0 j (omega arith) (omega arith) in

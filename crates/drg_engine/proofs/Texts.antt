@@ -23,8 +23,7 @@ use Rattle.drg_replay.specs.Rows.{rows_at, cells_from}
 use Rattle.drg_replay.specs.Indices.{is_index}
 use Rattle.drg_replay.specs.Lines.{known_of, steps_of}
 use Rattle.drg_replay.specs.Roots.{IsSquarefreeRoot}
-use Rattle.drg_replay.specs.Answers.{outcome, progress_of}
-use Rattle.drg_replay.specs.Soundness.{AllAreMet}
+use Rattle.drg_replay.specs.Answers.{AllAreMet, outcome, progress_of}
 use Rattle.drg_replay.proofs.Soundness.{above_zero}
 use Rattle.drg_replay.proofs.ProgressLaws.{accepted, all_are_met, array_stays}
 use Rattle.drg_replay.proofs.RootLaws.{root_found}

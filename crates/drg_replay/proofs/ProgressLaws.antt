@@ -13,8 +13,7 @@ use Rattle.drg_replay.specs.Known.{KnownContent}
 use Rattle.drg_replay.specs.Steps.{first_failure}
 use Rattle.drg_replay.specs.Lines.{known_at_start, known_after, known_of}
 use Rattle.drg_replay.specs.Claims.{claim_is_met, closing_steps}
-use Rattle.drg_replay.specs.Answers.{outcome, decided_by, goes_on, progress_of, class_of, closed_by, answer_at}
-use Rattle.drg_replay.specs.Soundness.{AllAreMet}
+use Rattle.drg_replay.specs.Answers.{AllAreMet, outcome, decided_by, goes_on, progress_of, accepted_class, closed_by, answer_at}
 
 -- what was known before the last of lines that are all met
 pub record WentOn (p : Progress) (line : Line) (k : KnownContent) : Type 0 where
@@ -67,7 +66,7 @@ pub record Accepted (p : Progress) (class : Class) : Type 0 where
   pub known : KnownContent
   pub all_met : p ≡ AllMet known
   pub closed : first_failure (closing_steps known) ≡ Ok tt
-  pub class_is : class ≡ class_of known
+  pub class_is : class ≡ accepted_class known
 
 closes : (r : Result ⊤ Refusal) (class found : Class) (n : ℕ) → closed_by r class n ≡ Ok found → (r ≡ Ok tt) × (found ≡ class)
 closes (Ok t) class found n h = (refl, cc)
@@ -76,7 +75,7 @@ closes (Err Wide) class found n h = cc
 
 pub accepted : (p : Progress) (class : Class) (n : ℕ) → answer_at p n ≡ Ok class → Accepted p class
 accepted (AllMet k) class n h =
-    let c = closes (first_failure (closing_steps k)) (class_of k) class n h in
+    let c = closes (first_failure (closing_steps k)) (accepted_class k) class n h in
     record { known = k; all_met = refl; closed = c.0; class_is = c.1 }
 accepted (Decided NotMet m) class n h = cc
 accepted (Decided Wide m) class n h = cc

@@ -9,7 +9,7 @@ use Rattle.drg_array.specs.Entries.{Entries, diameter, b_at, c_at, a_at}
 use Rattle.drg_graph.specs.Numbers.{numerator, AreRows}
 use Rattle.drg_replay.specs.Steps.{EachHolds}
 use Rattle.drg_replay.specs.Work.{sum_of}
-use Rattle.drg_replay.specs.Rows.{rows_at, entry, balance, cells_from, row_steps}
+use Rattle.drg_replay.specs.Rows.{rows_at, entry, balance, balances_from, row_steps}
 use Rattle.drg_replay.proofs.StepLaws.{at_most, not_at_most, is_same, is_whole_same}
 
 -- a numerator reads the rows i and i - 1 alone
@@ -82,12 +82,12 @@ no_rows a h = record {
 }
 
 -- a row before the last is as it was
-front : (rows : List (List ℤ)) (last : List ℤ) (i : ℕ) → i < length rows → slice_index_or (rows ++ last ∷ []) i [] ≡ slice_index_or rows i []
+pub front : (rows : List (List ℤ)) (last : List ℤ) (i : ℕ) → i < length rows → slice_index_or (rows ++ last ∷ []) i [] ≡ slice_index_or rows i []
 front [] last i h = absurd (omega arith)
 front (row ∷ rows) last zero h = refl
 front (row ∷ rows) last (suc i) h = front rows last i (omega arith)
 
-end : (rows : List (List ℤ)) (last : List ℤ) → slice_index_or (rows ++ last ∷ []) (length rows) [] ≡ last
+pub end : (rows : List (List ℤ)) (last : List ℤ) → slice_index_or (rows ++ last ∷ []) (length rows) [] ≡ last
 end [] last = refl
 end (row ∷ rows) last = end rows last
 
@@ -98,28 +98,28 @@ entry_front h rows last (suc t) l less = ap (λ row. slice_index_or row l (pos 0
 pub entry_end : (h : ℕ) (rows : List (List ℤ)) (last : List ℤ) (l : ℕ) → entry h (rows ++ last ∷ []) (suc (length rows)) l ≡ slice_index_or last l (pos 0)
 entry_end h rows last l = ap (λ row. slice_index_or row l (pos 0)) (end rows last)
 
-cell_at : (a : Entries) (h : ℕ) (rows : List (List ℤ)) (i j : ℕ) (values : List ℤ) (k l : ℕ) → EachHolds (cells_from a h rows i j values) → l ≡ j + k → k < length values
+balance_at : (a : Entries) (h : ℕ) (rows : List (List ℤ)) (i j : ℕ) (values : List ℤ) (k l : ℕ) → EachHolds (balances_from a h rows i j values) → l ≡ j + k → k < length values
     → pos (c_at a (suc i)) *ℤ slice_index_or values k (pos 0) ≡ sum_of (balance a h rows i l)
-cell_at a h rows i j [] k l holds e less = absurd (omega arith)
-cell_at a h rows i j (v ∷ vs) zero l holds e less = let same : l ≡ j = omega arith in rw same (is_whole_same _ _ holds.1.1.0)
-cell_at a h rows i j (v ∷ vs) (suc k) l holds e less = cell_at a h rows i (suc j) vs k l holds.1.1.1 (omega arith) (omega arith)
+balance_at a h rows i j [] k l holds e less = absurd (omega arith)
+balance_at a h rows i j (v ∷ vs) zero l holds e less = let same : l ≡ j = omega arith in rw same (is_whole_same _ _ holds.1.1.0)
+balance_at a h rows i j (v ∷ vs) (suc k) l holds e less = balance_at a h rows i (suc j) vs k l holds.1.1.1 (omega arith) (omega arith)
 
 pub length_more : (rows : List (List ℤ)) (last : List ℤ) → length (rows ++ last ∷ []) ≡ suc (length rows)
 length_more [] last = refl
 length_more (row ∷ rows) last = ap suc (length_more rows last)
 
 -- a met row is the next one
-row_next : (a : Entries) (h : ℕ) (rows : List (List ℤ)) (i : ℕ) (values : List ℤ) → i ≡ length rows → suc i ≤ diameter a → length values ≡ diameter a + 1 → EachHolds (cells_from a h rows i 0 values)
+row_next : (a : Entries) (h : ℕ) (rows : List (List ℤ)) (i : ℕ) (values : List ℤ) → i ≡ length rows → suc i ≤ diameter a → length values ≡ diameter a + 1 → EachHolds (balances_from a h rows i 0 values)
     → Rowed a h rows → Rowed a h (rows ++ values ∷ [])
-row_next a h rows i values at inside size cells rowed =
+row_next a h rows i values at inside size balances rowed =
     let more = length_more rows values in
-    let P : ℕ → Type 0 = λ n. EachHolds (cells_from a h rows n 0 values) in
-    let here : EachHolds (cells_from a h rows (length rows) 0 values) = subst P at cells in
+    let P : ℕ → Type 0 = λ n. EachHolds (balances_from a h rows n 0 values) in
+    let here : EachHolds (balances_from a h rows (length rows) 0 values) = subst P at balances in
     let whole : AreRows a h (suc (length rows)) (entry h (rows ++ values ∷ [])) =
     rows_more a h (length rows) (entry h (rows ++ values ∷ []))
     (rows_same a h (length rows) (entry h rows) (entry h (rows ++ values ∷ [])) (entry_front h rows values) rowed.are)
     (λ j hj. ap (λ z. pos (c_at a (suc (length rows))) *ℤ z) (entry_end h rows values j)
-    ∙ (cell_at a h rows (length rows) 0 values j j here (omega arith) (omega arith)
+    ∙ (balance_at a h rows (length rows) 0 values j j here (omega arith) (omega arith)
     ∙ (balance_is a h rows (length rows) j
     ∙ numerator_same a (entry h rows) (entry h (rows ++ values ∷ [])) (length rows) j (entry_front h rows values)))) in
     let Q : ℕ → Type 0 = λ n. AreRows a h n (entry h (rows ++ values ∷ [])) in
@@ -133,7 +133,7 @@ row_met a h rows i values inside steps rowed =
     row_next a h rows i values (omega arith) inside (is_same _ _ steps.1.1.0) steps.1.1.1 rowed
 
 -- a change of the rows of one upper index
-set_at : (rows : List (List (List ℤ))) (y k : ℕ) (new : List (List ℤ)) → (rows_at (slice_set rows y new) k ≡ rows_at rows k) ⊎ ((k ≡ y) × (rows_at (slice_set rows y new) k ≡ new))
+pub set_at : (rows : List (List (List ℤ))) (y k : ℕ) (new : List (List ℤ)) → (rows_at (slice_set rows y new) k ≡ rows_at rows k) ⊎ ((k ≡ y) × (rows_at (slice_set rows y new) k ≡ new))
 set_at [] y k new = inl refl
 set_at (r ∷ rows) zero zero new = inr (refl, refl)
 set_at (r ∷ rows) zero (suc k) new = inl refl

@@ -24,8 +24,9 @@ use Rattle.drg_replay.specs.Rows.{rows_at, entry}
 use Rattle.drg_replay.specs.Indices.{is_index}
 use Rattle.drg_replay.specs.Lines.{known_of, steps_of}
 use Rattle.drg_replay.specs.Claims.{claim_is_met, is_distance, closing_of, closing_steps, size_closing, intersect_closing, handshake_closing, induced_closing, triangles_closing}
-use Rattle.drg_replay.specs.Answers.{progress_of, class_of}
-use Rattle.drg_replay.specs.Soundness.{AllAreMet, GraphLaw, ClassLaw, MetSizesLaw, MetRowsLaw}
+use Rattle.drg_replay.specs.Answers.{AllAreMet, progress_of, accepted_class}
+use Rattle.drg_replay.specs.Laws.{ClassLaw}
+use Rattle.drg_replay.specs.Soundness.{GraphLaw, MetSizesLaw, MetRowsLaw}
 use Rattle.drg_replay.proofs.ProgressLaws.{all_are_met, claim_was_met, array_stays, claim_stays, accepted}
 use Rattle.drg_replay.proofs.ResidueLaws.{residue_multiple}
 use Rattle.drg_replay.proofs.StepLaws.{each_holds, both, either, not_met, at_most, is_less, is_same, are_same, is_whole_less}
@@ -44,12 +45,10 @@ pub sizes_known : (a : Entries) (claim : Claim) (lines : List Line) → AllAreMe
 sizes_known a claim [] met = no_sizes a
 sizes_known a claim (K values ∷ earlier) met =
     let k = known_of a claim earlier in sized k.array k.counts.sizes values (each_holds (steps_of k (K values)) met.1)
-sizes_known a claim (P h i values ∷ earlier) met = sizes_known a claim earlier met.0
 sizes_known a claim (_ ∷ earlier) met = sizes_known a claim earlier met.0
 
 pub rows_known : (a : Entries) (claim : Claim) (lines : List Line) → AllAreMet a claim lines → (h : ℕ) → Rowed (known_of a claim lines).array h (rows_at (known_of a claim lines).counts.rows h)
 rows_known a claim [] met h = first_rowed a (diameter a + 1) h
-rows_known a claim (K values ∷ earlier) met h = rows_known a claim earlier met.0 h
 rows_known a claim (P g i values ∷ earlier) met h =
     let k = known_of a claim earlier in
     let steps = each_holds (steps_of k (P g i values)) met.1 in
@@ -156,11 +155,7 @@ module _ (laws : Laws) (k : KnownContent) (array : IsArray k.array) where
       induced_excludes laws k.array array k.counts.sizes (rows_at k.counts.rows i) i j first.1 second.0 second.1 h sizes (rows i)
   closed_excludes (claim.Triangles i) met h sizes rows =
       (let range = distance k.array i met in triangles_excludes laws k.array array k.counts.sizes (rows_at k.counts.rows i) i range.0 range.1 h sizes (rows i))
-  closed_excludes (claim.Mult i) met h sizes rows = cc
-  closed_excludes (claim.Krein i j l) met h sizes rows = cc
-  closed_excludes (claim.Absolute i j) met h sizes rows = cc
-  closed_excludes (claim.Triple u v w) met h sizes rows = cc
-  closed_excludes (claim.Ktriple u v w) met h sizes rows = cc
+  closed_excludes _ met h sizes rows = cc
 
 -- ---- the answer
 
@@ -185,7 +180,7 @@ excludes laws δ array h =
 pub class_is : ClassLaw
 class_is δ class h =
     let end = accepted (progress_of δ.array δ.claim (reverse δ.lines)) class (length (reverse δ.lines) + 4) h in
-    end.class_is ∙ ap class_of (all_are_met δ.array δ.claim (reverse δ.lines) end.known end.all_met).1
+    end.class_is ∙ ap accepted_class (all_are_met δ.array δ.claim (reverse δ.lines) end.known end.all_met).1
 
 -- ---- met lines
 

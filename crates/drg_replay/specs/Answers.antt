@@ -15,13 +15,18 @@ use Rattle.drg_replay.specs.declared.progress.Progress.TheVariants.{AllMet, Deci
 use Rattle.drg_replay.specs.declared.answer.ReplayFault.{ReplayFault}
 use Rattle.drg_replay.specs.declared.answer.ReplayFault.TheVariants as answer
 use Rattle.drg_replay.specs.Known.{KnownContent}
-use Rattle.drg_replay.specs.Steps.{Step, first_failure}
-use Rattle.drg_replay.specs.Lines.{known_at_start, known_after, steps_of}
+use Rattle.drg_replay.specs.Steps.{first_failure}
+use Rattle.drg_replay.specs.Lines.{known_at_start, known_after, known_of, steps_of}
 use Rattle.drg_replay.specs.Claims.{claim_is_met, closing_steps}
 
 -- the condition of a line on what is known before it, and what it comes to
 abbrev pub outcome : KnownContent → Line → Result ⊤ Refusal
 outcome k line = first_failure (steps_of k line)
+
+-- each of these lines is met after those before it; the newest of them stands first
+abbrev pub AllAreMet : Entries → Claim → List Line → Type 0
+AllAreMet a claim [] = ⊤
+AllAreMet a claim (line ∷ earlier) = AllAreMet a claim earlier × (outcome (known_of a claim earlier) line ≡ Ok tt)
 
 -- lines that are all met so far, after one that comes to this and has this number
 abbrev pub decided_by : Result ⊤ Refusal → KnownContent → ℕ → Progress
@@ -39,8 +44,8 @@ progress_of a claim [] = if claim_is_met a claim then AllMet (known_at_start a c
 progress_of a claim (line ∷ earlier) = goes_on (progress_of a claim earlier) line (length earlier + 4)
 
 -- the class of an accepted derivation: spectral where a `frame` line stands
-abbrev pub class_of : KnownContent → Class
-class_of k = if is_some k.frame then Spectral else Counting
+abbrev pub accepted_class : KnownContent → Class
+accepted_class k = if is_some k.frame then Spectral else Counting
 
 -- the answer at the end line, which has this number, after lines that are all met, by what the end itself comes to
 abbrev pub closed_by : Result ⊤ Refusal → Class → ℕ → Result Class ReplayFault
@@ -50,7 +55,7 @@ closed_by (Err refusal.Wide) class n = Err (answer.Wide n)
 
 -- the answer at the end line, which has this number, after lines that come to that
 abbrev pub answer_at : Progress → ℕ → Result Class ReplayFault
-answer_at (AllMet k) n = closed_by (first_failure (closing_steps k)) (class_of k) n
+answer_at (AllMet k) n = closed_by (first_failure (closing_steps k)) (accepted_class k) n
 answer_at (Decided refusal.NotMet m) n = Err (answer.NotMet m)
 answer_at (Decided refusal.Wide m) n = Err (answer.Wide m)
 
@@ -63,7 +68,7 @@ abbrev pub answer_of : Content → Result Class ReplayFault
 answer_of δ = answer_after δ.array δ.claim (reverse δ.lines)
 
 -- a call that takes a line: what the line came to, and what is known then; want of memory changes nothing
-abbrev pub Takes : Result ⊤ Fault → List Step → KnownContent → KnownContent → KnownContent → Type 0
-Takes (Ok t) steps old after new = (first_failure steps ≡ Ok tt) × (new ≡ after)
-Takes (Err (fault.Refused refusal)) steps old after new = (first_failure steps ≡ Err refusal) × (new ≡ old)
-Takes (Err fault.Memory) steps old after new = new ≡ old
+abbrev pub TakesLine : Result ⊤ Fault → Line → KnownContent → KnownContent → Type 0
+TakesLine (Ok t) line old new = (outcome old line ≡ Ok tt) × (new ≡ known_after line old)
+TakesLine (Err (fault.Refused refusal)) line old new = (outcome old line ≡ Err refusal) × (new ≡ old)
+TakesLine (Err fault.Memory) line old new = new ≡ old

@@ -2,9 +2,9 @@
 use Rattle.std.specs.Prelude.{ℕ, suc, ◌+◌, ◌-◌, nat_eq, nat_lt, nat_le, ℤ, pos, int_lt, ◌*ℤ◌, Bool, true, false, ◌&&◌, ◌||◌, not, List, [], ◌∷◌, length, Option}
 use Rattle.drg_array.specs.Entries.{Entries, diameter, b_at, c_at, a_at}
 use Rattle.drg_array.specs.declared.claim.Claim.{Claim}
-use Rattle.drg_array.specs.declared.claim.Claim.TheVariants.{First, Degree, Order, Cross, Size, Intersect, Handshake, Induced, Triangles, Mult, Krein, Absolute, Triple, Ktriple}
+use Rattle.drg_array.specs.declared.claim.Claim.TheVariants.{First, Degree, Order, Cross, Size, Intersect, Handshake, Induced, Triangles, Mult}
 use Rattle.drg_replay.specs.Known.{KnownContent}
-use Rattle.drg_replay.specs.Steps.{Step, Holds, Fits}
+use Rattle.drg_replay.specs.Steps.{Step, Holds, Fits, not_built}
 use Rattle.drg_replay.specs.Work.{in_range, sum_of, sum_fits}
 use Rattle.drg_replay.specs.Residues.{divides}
 use Rattle.drg_replay.specs.Sizes.{values_of, size_at, is_full, vertex_count}
@@ -14,7 +14,7 @@ use Rattle.drg_replay.specs.Rows.{rows_at, row_stands, entry, balance}
 abbrev pub is_distance : Entries → ℕ → Bool
 is_distance a i = nat_le 1 i && nat_le i (diameter a)
 
--- the indices lie in the range of the test; no rule is built yet for the claims below mult, so none of them is met
+-- the indices lie in the range of the test; no other claim is met yet
 abbrev pub claim_is_met : Entries → Claim → Bool
 claim_is_met a First = true
 claim_is_met a (Degree i) = is_distance a i
@@ -26,10 +26,7 @@ claim_is_met a (Handshake i) = is_distance a i
 claim_is_met a (Induced i j) = is_distance a i && is_distance a j
 claim_is_met a (Triangles i) = is_distance a i
 claim_is_met a (Mult i) = is_distance a i
-claim_is_met a (Krein i j h) = false
-claim_is_met a (Absolute i j) = false
-claim_is_met a (Triple u v w) = false
-claim_is_met a (Ktriple u v w) = false
+claim_is_met a _ = false
 
 -- c_i doesn't divide v_(i-1) b_(i-1)
 abbrev pub size_closing : Entries → Option (List ℤ) → ℕ → List Step
@@ -73,7 +70,7 @@ triangles_closing a sizes rows i =
     ∷ Holds (not (divides 6 (vertex_count sizes *ℤ size_at sizes i *ℤ entry i rows i i)))
     ∷ []
 
--- what the end asks for this claim; no rule is built yet for the claims below triangles, so none of them is closed
+-- the claims that have a rule for the end; no other claim is closed yet
 abbrev pub closing_of : KnownContent → Claim → List Step
 closing_of k First = Holds (not (nat_eq (c_at k.array 1) 1)) ∷ []
 closing_of k (Degree i) = Holds (int_lt (a_at k.array i) (pos 0)) ∷ []
@@ -84,11 +81,7 @@ closing_of k (Intersect h i j) = intersect_closing k.array h (rows_at k.counts.r
 closing_of k (Handshake i) = handshake_closing k.array k.counts.sizes i
 closing_of k (Induced i j) = induced_closing k.array k.counts.sizes (rows_at k.counts.rows i) i j
 closing_of k (Triangles i) = triangles_closing k.array k.counts.sizes (rows_at k.counts.rows i) i
-closing_of k (Mult i) = Holds false ∷ []
-closing_of k (Krein i j h) = Holds false ∷ []
-closing_of k (Absolute i j) = Holds false ∷ []
-closing_of k (Triple u v w) = Holds false ∷ []
-closing_of k (Ktriple u v w) = Holds false ∷ []
+closing_of k _ = not_built
 
 -- what the end asks for the claim in force
 abbrev pub closing_steps : KnownContent → List Step

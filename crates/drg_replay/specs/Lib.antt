@@ -4,6 +4,7 @@ pub mod Frames
 pub mod HasJudged
 pub mod Indices
 pub mod Known
+pub mod Laws
 pub mod Lines
 pub mod Residues
 pub mod Roots

@@ -48,17 +48,18 @@ balance a h rows i j =
     ∷ of_factors (neg_ℤ (a_at a i)) (entry h rows i j)
     ∷ []
 
-abbrev pub cell_steps : Entries → ℕ → List (List ℤ) → ℕ → ℕ → ℤ → List Step
-cell_steps a h rows i j value =
+-- c_(i+1) v = N(h,i+1,j)
+abbrev pub balance_steps : Entries → ℕ → List (List ℤ) → ℕ → ℕ → ℤ → List Step
+balance_steps a h rows i j value =
     Fits (in_range (pos (c_at a (suc i)) *ℤ value))
     ∷ Fits (sum_fits (balance a h rows i j))
     ∷ Holds (int_eq (pos (c_at a (suc i)) *ℤ value) (sum_of (balance a h rows i j)))
     ∷ []
 
--- the cells of row i+1 from place j on
-abbrev pub cells_from : Entries → ℕ → List (List ℤ) → ℕ → ℕ → List ℤ → List Step
-cells_from a h rows i j [] = []
-cells_from a h rows i j (v ∷ vs) = cell_steps a h rows i j v ++ cells_from a h rows i (suc j) vs
+-- the numbers of row i+1 from place j on
+abbrev pub balances_from : Entries → ℕ → List (List ℤ) → ℕ → ℕ → List ℤ → List Step
+balances_from a h rows i j [] = []
+balances_from a h rows i j (v ∷ vs) = balance_steps a h rows i j v ++ balances_from a h rows i (suc j) vs
 
 -- row i+1 of h, after the rows of h
 abbrev pub row_steps : Entries → ℕ → List (List ℤ) → ℕ → List ℤ → List Step
@@ -66,4 +67,4 @@ row_steps a h rows i values =
     Holds (not (row_stands rows (suc i)))
     ∷ Holds (row_stands rows i)
     ∷ Holds (nat_eq (length values) (diameter a + 1))
-    ∷ cells_from a h rows i 0 values
+    ∷ balances_from a h rows i 0 values

@@ -1,8 +1,7 @@
 -- What an accepted derivation, and each met line of it, says of graphs.
-use Rattle.std.specs.Prelude.{◌≡◌, ⊤, ℕ, ◌≤◌, ◌<◌, pos, length, reverse, IsTrue, List, [], ◌∷◌, Ok}
+use Rattle.std.specs.Prelude.{◌≡◌, ℕ, ◌≤◌, ◌<◌, pos, length, IsTrue, List, Ok}
 use Rattle.drg_array.specs.Entries.{Entries, IsArray, diameter}
 use Rattle.drg_array.specs.declared.claim.Claim.{Claim}
-use Rattle.drg_array.specs.declared.claim.Class.{Class}
 use Rattle.drg_array.specs.declared.claim.Class.TheVariants.{Counting}
 use Rattle.drg_derivation.specs.Content.{Content}
 use Rattle.drg_derivation.specs.declared.line.Line.{Line}
@@ -11,16 +10,7 @@ use Rattle.drg_replay.specs.Known.{KnownContent}
 use Rattle.drg_replay.specs.Sizes.{size_at, values_of}
 use Rattle.drg_replay.specs.Rows.{rows_at, entry}
 use Rattle.drg_replay.specs.Lines.{known_of}
-use Rattle.drg_replay.specs.Answers.{outcome, class_of, answer_of}
-
--- each line is met after those before it
-abbrev pub AllAreMet : Entries → Claim → List Line → Type 0
-AllAreMet a claim [] = ⊤
-AllAreMet a claim (line ∷ earlier) = AllAreMet a claim earlier × (outcome (known_of a claim earlier) line ≡ Ok tt)
-
--- the class of an accepted derivation is spectral exactly where a `frame` line stands
-abbrev pub ClassLaw : Type 0
-ClassLaw = (δ : Content) (class : Class) → answer_of δ ≡ Ok class → class ≡ class_of (known_of δ.array δ.claim (reverse δ.lines))
+use Rattle.drg_replay.specs.Answers.{AllAreMet, answer_of}
 
 -- a derivation that is accepted by counting rules alone excludes every graph
 abbrev pub GraphLaw : Type 0
@@ -38,8 +28,12 @@ RowsAreCounts g k =
 
 -- a met `k` line states the counts in every graph of the array
 abbrev pub MetSizesLaw : Type 0
-MetSizesLaw = (g : Graph) (a : Entries) (claim : Claim) (lines : List Line) → IsArray a → IsDistanceRegular g a → AllAreMet a claim lines → SizesAreCounts g (known_of a claim lines)
+MetSizesLaw =
+    (g : Graph) (a : Entries) (claim : Claim) (lines : List Line) → IsArray a → IsDistanceRegular g a
+    → AllAreMet a claim lines → SizesAreCounts g (known_of a claim lines)
 
 -- and so do met `p` lines
 abbrev pub MetRowsLaw : Type 0
-MetRowsLaw = (g : Graph) (a : Entries) (claim : Claim) (lines : List Line) → IsArray a → IsDistanceRegular g a → AllAreMet a claim lines → RowsAreCounts g (known_of a claim lines)
+MetRowsLaw =
+    (g : Graph) (a : Entries) (claim : Claim) (lines : List Line) → IsArray a → IsDistanceRegular g a
+    → AllAreMet a claim lines → RowsAreCounts g (known_of a claim lines)

@@ -1,5 +1,5 @@
 -- What is looked at for a line, in its order, and what it comes to.
-use Rattle.std.specs.Prelude.{◌≡◌, true, Bool, ⊤, List, [], ◌∷◌, Result, Ok, Err, if◌then◌else◌}
+use Rattle.std.specs.Prelude.{◌≡◌, true, false, Bool, ⊤, List, [], ◌∷◌, Result, Ok, Err, if◌then◌else◌}
 use Rattle.drg_replay.specs.declared.refusal.Refusal.{Refusal}
 use Rattle.drg_replay.specs.declared.refusal.Refusal.TheVariants.{NotMet, Wide}
 
@@ -14,6 +14,10 @@ abbrev pub first_failure : List Step → Result ⊤ Refusal
 first_failure [] = Ok tt
 first_failure (Holds condition ∷ steps) = if condition then first_failure steps else Err NotMet
 first_failure (Fits numbers ∷ steps) = if numbers then first_failure steps else Err Wide
+
+-- what is asked where no rule is built yet: what nothing meets
+abbrev pub not_built : List Step
+not_built = Holds false ∷ []
 
 -- each condition holds and each work number is in range
 abbrev pub EachHolds : List Step → Type 0

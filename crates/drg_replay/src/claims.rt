@@ -6,7 +6,7 @@ ghost use Rattle.drg_replay.specs.Claims.{claim_is_met as the_claim_is_met, is_d
 
 use crate::known::Known;
 use crate::parity::{check_handshake, check_induced, check_triangles, divides};
-use crate::refusal::{Refusal, met_where};
+use crate::refusal::{Refusal, met_where, not_built};
 use crate::rows::{balance_of, row_stands};
 use crate::sizes::{size_at, values_of};
 use crate::work::{sum_of, times_entry};
@@ -38,10 +38,7 @@ pub fn claim_is_met(array: &Array, claim: Claim) -> bool
         Claim::Induced { i, j } => is_distance(array, i) && is_distance(array, j),
         Claim::Triangles { i } => is_distance(array, i),
         Claim::Mult { i } => is_distance(array, i),
-        Claim::Krein { .. }
-        | Claim::Absolute { .. }
-        | Claim::Triple { .. }
-        | Claim::Ktriple { .. } => false,
+        _ => false,
     }
 }
 
@@ -108,10 +105,6 @@ pub fn check_closing(known: &Known) -> Result<(), Refusal>
             let i = usize::from(i);
             check_triangles(array, counts.sizes(), counts.rows_at(i), i)
         }
-        Claim::Mult { .. }
-        | Claim::Krein { .. }
-        | Claim::Absolute { .. }
-        | Claim::Triple { .. }
-        | Claim::Ktriple { .. } => Err(Refusal::NotMet),
+        _ => not_built(),
     }
 }

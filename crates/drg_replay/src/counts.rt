@@ -1,7 +1,8 @@
 //! What the lines `k` and `p` state.
-ghost use Rattle.std.specs.Prelude.{◌≡◌, ◌<◌, ◌+◌, ◌++◌, ◌∷◌, [], length, Some, None, IfOk, MatchResult, slice_set, replicate};
+ghost use Rattle.std.specs.Prelude.{◌≡◌, ◌<◌, ◌+◌, [], length, Some, IfOk, OnOk, OnErr, replicate};
 ghost use Rattle.drg_array.specs.Entries.{diameter};
 ghost use Rattle.drg_replay.specs.Rows.{rows_at as the_rows_at};
+ghost use Rattle.drg_replay.specs.Lines.{counts_at_start, with_row};
 
 use drg_array::Array;
 use drg_derivation::Numbers;
@@ -53,7 +54,7 @@ fn no_rows(alloc: Global, array: &Array) -> Result<Vec<Rows>, AllocError>
 impl Counts {
     /// Before the first line.
     pub fn new(alloc: Global, array: &Array) -> Result<Counts, AllocError>
-        ensures { IfOk result (λ counts. counts ≡ record { sizes = None; rows = replicate (diameter array.now + 1) [] }) }
+        ensures { IfOk result (λ counts. counts ≡ counts_at_start array.now) }
     {
         Ok(Counts {
             sizes: None,
@@ -86,9 +87,8 @@ impl Counts {
     /// Appends a row of an upper index.
     pub fn keep_row(&mut self, h: usize, row: Numbers) -> Result<(), AllocError>
         requires { h < length self.old.rows }
-        ensures { MatchResult result
-            (λ _. self.new ≡ record self.old { rows = slice_set self.old.rows h (the_rows_at self.old.rows h ++ row ∷ []) })
-            (λ _. self.new ≡ self.old) }
+        ensures ok { OnOk result (self.new ≡ with_row self.old h row) }
+        ensures err { OnErr result (self.new ≡ self.old) }
     {
         self.rows[h].rows.push(row)?;
         Ok(())

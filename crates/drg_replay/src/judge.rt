@@ -3,9 +3,9 @@ ghost use Rattle.std.specs.Prelude.{◌≡◌, ◌≢◌, ◌+◌, ◌<◌, ◌^
 ghost use Rattle.drg_array.specs.Entries.{Entries};
 ghost use Rattle.drg_array.specs.declared.claim.Class.TheVariants.{Counting};
 ghost use Rattle.drg_graph.specs.Graph.{NoGraph};
-ghost use Rattle.drg_replay.specs.Lines.{known_of};
+ghost use Rattle.drg_replay.specs.Lines.{known_at_end};
 ghost use Rattle.drg_replay.specs.HasJudged.{HasJudged};
-ghost use Rattle.drg_replay.specs.Answers.{answer_of, answer_after, answer_at, class_of};
+ghost use Rattle.drg_replay.specs.Answers.{answer_of, answer_after, answer_at, accepted_class};
 ghost use Rattle.drg_replay.specs.declared.progress.Progress.TheVariants.{AllMet};
 ghost use Rattle.drg_replay.specs.declared.answer.ReplayFault.TheVariants.{Memory};
 ghost use Rattle.drg_array.specs.declared.claim.Claim.{Claim};
@@ -47,7 +47,8 @@ impl Judge {
     /// Takes the next line. Want of memory changes nothing.
     pub fn feed(&mut self, line: &Line) -> Result<(), AllocError>
         requires { self.old.line + 1 < 2 ^ 64 }
-        ensures judged { OnOk result ((a : Entries) (claim : Claim) (lines : List Line) → HasJudged self.old a claim lines → HasJudged self.new a claim (line.now ∷ lines)) }
+        ensures judged { OnOk result ((a : Entries) (claim : Claim) (lines : List Line)
+            → HasJudged self.old a claim lines → HasJudged self.new a claim (line.now ∷ lines)) }
         ensures line { OnOk result (self.new.line ≡ self.old.line + 1) }
         ensures err { OnErr result (self.new ≡ self.old) }
     {
@@ -69,7 +70,8 @@ impl Judge {
 
     /// The answer, where the end line comes now.
     pub fn finish(&self) -> Result<Class, ReplayFault>
-        ensures { (a : Entries) (claim : Claim) (lines : List Line) → HasJudged self.now a claim lines → result ≡ answer_after a claim lines }
+        ensures { (a : Entries) (claim : Claim) (lines : List Line)
+            → HasJudged self.now a claim lines → result ≡ answer_after a claim lines }
     {
         match &self.progress {
             Progress::AllMet(known) => close(known, self.line),
@@ -125,7 +127,7 @@ pub fn replay_lines(
 /// excludes every graph that has the array.
 pub fn replay(alloc: Global, derivation: &Derivation) -> Result<Class, ReplayFault>
     ensures answer { result ≢ Err Memory → result ≡ answer_of derivation.now }
-    ensures class { IfOk result (λ class. class ≡ class_of (known_of derivation.now.array derivation.now.claim (reverse derivation.now.lines))) }
+    ensures class { IfOk result (λ class. class ≡ accepted_class (known_at_end derivation.now)) }
     ensures graph { result ≡ Ok Counting → NoGraph derivation.now.array }
 {
     graph_law();

@@ -1,15 +1,15 @@
 //! What the lines so far have made known.
 ghost use Rattle.std.specs.Prelude.{◌≡◌, ◌+◌, length, is_some, IfOk, true};
 ghost use Rattle.drg_array.specs.Entries.{diameter};
-ghost use Rattle.drg_replay.specs.Answers.{Takes};
+ghost use Rattle.drg_replay.specs.Answers.{TakesLine};
 ghost use Rattle.drg_replay.specs.Claims.{claim_is_met as the_claim_is_met};
-ghost use Rattle.drg_replay.specs.Lines.{known_after, known_at_start, steps_of};
+ghost use Rattle.drg_replay.specs.Lines.{known_at_start};
 ghost use Rattle.drg_derivation.specs.declared.line.Line.TheVariants.{K, P, Frame as FrameLine};
 
 use crate::counts::Counts;
 use crate::frame::{Frame, check_frame};
 use crate::index::index;
-use crate::refusal::{Fault, Refusal};
+use crate::refusal::{Fault, not_built};
 use crate::rows::check_row;
 use crate::sizes::check_sizes;
 use drg_array::{Array, Claim};
@@ -37,7 +37,8 @@ impl Model for Known {
 
     ghost view = { λ k. record { array = k.array; claim = k.claim; counts = k.counts; frame = k.frame } };
 
-    ghost invariant = { λ k. (claim_is_met k.array k.claim ≡ true) × (length k.counts.rows ≡ diameter k.array + 1) };
+    ghost invariant = { λ k. (claim_is_met k.array k.claim ≡ true)
+        × (length k.counts.rows ≡ diameter k.array + 1) };
 }
 
 fn copied(alloc: Global, numbers: &Numbers) -> Result<Numbers, AllocError>
@@ -94,7 +95,7 @@ impl Known {
 
     /// Takes a `k` line.
     fn take_sizes(&mut self, values: &Numbers) -> Result<(), Fault>
-        ensures { Takes result (steps_of self.old (K values.now)) self.old (known_after (K values.now) self.old) self.new }
+        ensures { TakesLine result (K values.now) self.old self.new }
     {
         check_sizes(&self.array, self.counts.sizes(), values.as_slice())?;
         let sizes = copied(self.alloc, values)?;
@@ -104,7 +105,7 @@ impl Known {
 
     /// Takes a `p` line.
     fn take_row(&mut self, h: i128, i: i128, values: &Numbers) -> Result<(), Fault>
-        ensures { Takes result (steps_of self.old (P h i values.now)) self.old (known_after (P h i values.now) self.old) self.new }
+        ensures { TakesLine result (P h i values.now) self.old self.new }
     {
         let d = self.array.d();
         let h = index(0, h, d)?;
@@ -123,7 +124,7 @@ impl Known {
 
     /// Takes a `frame` line.
     fn take_frame(&mut self, root: i128) -> Result<(), Fault>
-        ensures { Takes result (steps_of self.old (FrameLine root)) self.old (known_after (FrameLine root) self.old) self.new }
+        ensures { TakesLine result (FrameLine root) self.old self.new }
     {
         check_frame(self, root)?;
         self.frame = Some(Frame::new(root));
@@ -132,25 +133,16 @@ impl Known {
 
     /// Takes a line. A refusal changes nothing, nor does want of memory.
     pub fn step(&mut self, line: &Line) -> Result<(), Fault>
-        ensures { Takes result (steps_of self.old line.now) self.old (known_after line.now self.old) self.new }
+        ensures { TakesLine result line.now self.old self.new }
     {
         match line {
             Line::K { values } => self.take_sizes(values),
             Line::P { h, i, values } => self.take_row(*h, *i, values),
             Line::Frame { root } => self.take_frame(*root),
-            Line::Theta { .. }
-            | Line::Prow { .. }
-            | Line::Qrow { .. }
-            | Line::Krein { .. }
-            | Line::Eq { .. }
-            | Line::Keq { .. }
-            | Line::Comb { .. }
-            | Line::Low { .. }
-            | Line::High { .. }
-            | Line::Split { .. }
-            | Line::Miss { .. }
-            | Line::Mod { .. }
-            | Line::Void { .. } => Err(Fault::Refused(Refusal::NotMet)),
+            _ => {
+                not_built()?;
+                Ok(())
+            }
         }
     }
 }

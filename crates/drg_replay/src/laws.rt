@@ -1,6 +1,7 @@
 //! The laws of the answer and of met lines.
 ghost use Rattle.drg_replay.specs.Roots.{RootLaw};
-ghost use Rattle.drg_replay.specs.Soundness.{ClassLaw, GraphLaw, MetRowsLaw, MetSizesLaw};
+ghost use Rattle.drg_replay.specs.Laws.{ClassLaw, KnownAloneLaw, KnownRowsLaw, KnownSizesLaw};
+ghost use Rattle.drg_replay.specs.Soundness.{GraphLaw, MetRowsLaw, MetSizesLaw};
 
 use drg_graph::{
     cross_law, degree_law, first_law, handshake_law, induced_law, intersect_law, order_law,
@@ -27,18 +28,27 @@ pub fn graph_law()
     triangles_law();
 }
 
-/// The numbers of a met `k` line are the counts of vertices at each distance, at each vertex of a
-/// graph that has the array.
+/// What lines come to after others depends on what those make known alone, up to the numbers of the
+/// lines.
+pub fn known_alone_law()
+    ensures { KnownAloneLaw }
+{}
+
+/// The sizes that are known are those of the `k` line, and in a graph that has the array they are the
+/// counts of vertices at each distance, at each vertex.
 pub fn met_sizes_law()
-    ensures { MetSizesLaw }
+    ensures stated { KnownSizesLaw }
+    ensures counts { MetSizesLaw }
 {
     sizes_law();
 }
 
-/// The numbers of met `p` lines are the counts of vertices at two distances from two vertices, for
-/// each two vertices at distance h of a graph that has the array.
+/// The rows of h that are known are those of its `p` lines, and in a graph that has the array their
+/// numbers are the counts of vertices at two distances from two vertices, for each two vertices at
+/// distance h.
 pub fn met_rows_law()
-    ensures { MetRowsLaw }
+    ensures stated { KnownRowsLaw }
+    ensures counts { MetRowsLaw }
 {
     rows_law();
 }

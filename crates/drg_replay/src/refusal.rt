@@ -1,6 +1,6 @@
 //! Why a line isn't taken.
 ghost use Rattle.std.specs.Prelude.{◌≡◌, ◌∷◌, []};
-ghost use Rattle.drg_replay.specs.Steps.{Holds, first_failure};
+ghost use Rattle.drg_replay.specs.Steps.{Holds, first_failure, not_built as the_not_built};
 ghost use Rattle.drg_replay.specs.declared.refusal.Fault.TheVariants.{Memory, Refused};
 
 use std::alloc::AllocError;
@@ -30,6 +30,13 @@ pub fn met_where(condition: bool) -> Result<(), Refusal>
     } else {
         Err(Refusal::NotMet)
     }
+}
+
+/// The answer where no rule is built yet.
+pub fn not_built() -> Result<(), Refusal>
+    ensures { result ≡ first_failure the_not_built }
+{
+    Err(Refusal::NotMet)
 }
 
 impl From<Refusal> for Fault {

@@ -2,7 +2,7 @@
 ghost use Rattle.std.specs.Prelude.{◌≡◌, ◌≤◌, ◌<◌, ◌+◌, suc, neg_ℤ, length, slice_index_or, pos};
 ghost use Rattle.drg_array.specs.Entries.{diameter, c_at, a_at};
 ghost use Rattle.drg_replay.specs.Steps.{first_failure};
-ghost use Rattle.drg_replay.specs.Rows.{entry as the_entry, entry_before as the_entry_before, entry_above as the_entry_above, row_stands as the_row_stands, balance, cell_steps, cells_from, row_steps, of_factors, b_before as the_b_before};
+ghost use Rattle.drg_replay.specs.Rows.{entry as the_entry, entry_before as the_entry_before, entry_above as the_entry_above, row_stands as the_row_stands, balance, balance_steps, balances_from, row_steps, of_factors, b_before as the_b_before};
 
 use crate::refusal::Refusal;
 use crate::work::{Product, sum_of, times};
@@ -140,7 +140,7 @@ pub fn balance_of(array: &Array, h: usize, rows: &[Numbers], i: usize, j: usize)
 }
 
 /// Whether the balance equation holds for this number of row i+1.
-fn check_cell(
+fn check_balance(
     array: &Array,
     h: usize,
     rows: &[Numbers],
@@ -150,7 +150,7 @@ fn check_cell(
 ) -> Result<(), Refusal>
     requires j { j ≤ diameter array.now }
     requires i { i < diameter array.now }
-    ensures { result ≡ first_failure (cell_steps array.now h rows.now i j value) }
+    ensures { result ≡ first_failure (balance_steps array.now h rows.now i j value) }
 {
     let _ = array.d();
     let left = times(i128::from(array.c(i + 1)), value)?;
@@ -162,7 +162,7 @@ fn check_cell(
 }
 
 /// Whether the balance equation holds for these numbers of row i+1, from place j on.
-fn check_cells(
+fn check_balances(
     array: &Array,
     h: usize,
     rows: &[Numbers],
@@ -172,14 +172,14 @@ fn check_cells(
 ) -> Result<(), Refusal>
     requires j { j + length values.now ≡ diameter array.now + 1 }
     requires i { i < diameter array.now }
-    ensures { result ≡ first_failure (cells_from array.now h rows.now i j values.now) }
+    ensures { result ≡ first_failure (balances_from array.now h rows.now i j values.now) }
 {
     let _ = array.d();
     match values.split_first() {
         None => Ok(()),
         Some((value, rest)) => {
-            check_cell(array, h, rows, i, j, *value)?;
-            check_cells(array, h, rows, i, j + 1, rest)
+            check_balance(array, h, rows, i, j, *value)?;
+            check_balances(array, h, rows, i, j + 1, rest)
         }
     }
 }
@@ -199,5 +199,5 @@ pub fn check_row(
     if row_stands(rows, i + 1) || !row_stands(rows, i) || values.len() != d + 1 {
         return Err(Refusal::NotMet);
     }
-    check_cells(array, h, rows, i, 0, values)
+    check_balances(array, h, rows, i, 0, values)
 }

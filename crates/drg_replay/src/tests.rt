@@ -183,7 +183,7 @@ fn work_numbers_out_of_range(rt: HostRuntime) -> Result<(), Fail> {
     );
     let lines = vec![in alloc; row(alloc, 2, 1, &[large, 2, 2])?]?;
     assert_eq!(rt; answer(alloc, "{4,1;2,2}", Claim::First, lines)?, wide(4));
-    // The first cell decides before the product of the second is made.
+    // The first number decides before the product of the second is made.
     let lines = vec![in alloc; row(alloc, 2, 1, &[1, large, 2])?]?;
     assert_eq!(rt;
         answer(alloc, "{4,1;2,2}", Claim::First, lines)?,
