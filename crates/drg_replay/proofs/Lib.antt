@@ -1,5 +1,4 @@
 pub mod ProgressLaws
-pub mod ResidueLaws
 pub mod StepLaws
 pub mod SizeLaws
 pub mod RowLaws

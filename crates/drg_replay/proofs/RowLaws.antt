@@ -8,8 +8,7 @@ use Rattle.drg_algebra.specs.Integer.{integers, ring2}
 use Rattle.drg_array.specs.Entries.{Entries, diameter, b_at, c_at, a_at}
 use Rattle.drg_graph.specs.Numbers.{numerator, AreRows}
 use Rattle.drg_replay.specs.Steps.{EachHolds}
-use Rattle.drg_replay.specs.Work.{sum_of}
-use Rattle.drg_replay.specs.Rows.{rows_at, entry, balance, balances_from, row_steps}
+use Rattle.drg_replay.specs.Rows.{rows_at, entry, balance, balance_sum, balances_from, row_steps}
 use Rattle.drg_replay.proofs.StepLaws.{at_most, not_at_most, is_same, is_whole_same}
 
 -- a numerator reads the rows i and i - 1 alone
@@ -59,7 +58,7 @@ six_terms : (t u v x s y z : ℤ) → pos 0 +ℤ t +ℤ u +ℤ v +ℤ (neg_ℤ x
 six_terms t u v x s y z = let e = less_product x s in let f = less_product y z in omega (arith, ints)
 
 -- the sum of the terms is the numerator
-pub balance_is : (a : Entries) (h : ℕ) (rows : List (List ℤ)) (i j : ℕ) → sum_of (balance a h rows i j) ≡ numerator a (entry h rows) i j
+pub balance_is : (a : Entries) (h : ℕ) (rows : List (List ℤ)) (i j : ℕ) → balance_sum a h rows i j ≡ numerator a (entry h rows) i j
 unfolding balance
 balance_is a h rows zero zero = six_terms (pos 0) (a_at a zero *ℤ entry h rows zero zero) (pos (c_at a (suc zero)) *ℤ entry h rows zero (suc zero)) (pos 0) (pos 0) (a_at a zero) (entry h rows zero zero)
 balance_is a h rows zero (suc j) = six_terms (pos (b_at a j) *ℤ entry h rows zero j) (a_at a (suc j) *ℤ entry h rows zero (suc j)) (pos (c_at a (suc (suc j))) *ℤ entry h rows zero (suc (suc j))) (pos 0) (pos 0) (a_at a zero) (entry h rows zero (suc j))
@@ -99,7 +98,7 @@ pub entry_end : (h : ℕ) (rows : List (List ℤ)) (last : List ℤ) (l : ℕ) �
 entry_end h rows last l = ap (λ row. slice_index_or row l (pos 0)) (end rows last)
 
 balance_at : (a : Entries) (h : ℕ) (rows : List (List ℤ)) (i j : ℕ) (values : List ℤ) (k l : ℕ) → EachHolds (balances_from a h rows i j values) → l ≡ j + k → k < length values
-    → pos (c_at a (suc i)) *ℤ slice_index_or values k (pos 0) ≡ sum_of (balance a h rows i l)
+    → pos (c_at a (suc i)) *ℤ slice_index_or values k (pos 0) ≡ balance_sum a h rows i l
 balance_at a h rows i j [] k l holds e less = absurd (omega arith)
 balance_at a h rows i j (v ∷ vs) zero l holds e less = let same : l ≡ j = omega arith in rw same (is_whole_same _ _ holds.1.1.0)
 balance_at a h rows i j (v ∷ vs) (suc k) l holds e less = balance_at a h rows i (suc j) vs k l holds.1.1.1 (omega arith) (omega arith)

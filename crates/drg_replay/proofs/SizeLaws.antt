@@ -6,7 +6,7 @@ use Rattle.drg_algebra.specs.Sums.{below, whole_sum}
 use Rattle.drg_array.specs.Entries.{Entries, diameter, b_at, c_at}
 use Rattle.drg_graph.specs.Numbers.{AreSizes}
 use Rattle.drg_replay.specs.Steps.{EachHolds}
-use Rattle.drg_replay.specs.Work.{sum_from}
+use Rattle.drg_whole.specs.Sums.{sum_from}
 use Rattle.drg_replay.specs.Sizes.{size_at, sizes_from, size_steps, values_of, vertex_count}
 use Rattle.drg_replay.proofs.StepLaws.{at_most, is_whole_same}
 

@@ -18,7 +18,7 @@ use Rattle.drg_graph.specs.RowLaws.{IntersectLaw, RowsLaw}
 use Rattle.drg_graph.specs.ParityLaws.{HandshakeLaw, InducedLaw, TrianglesLaw}
 use Rattle.drg_replay.specs.Known.{KnownContent}
 use Rattle.drg_replay.specs.Steps.{EachHolds, first_failure}
-use Rattle.drg_replay.specs.Residues.{divides}
+use Rattle.drg_whole.specs.Residues.{divides}
 use Rattle.drg_replay.specs.Sizes.{size_at, values_of}
 use Rattle.drg_replay.specs.Rows.{rows_at, entry}
 use Rattle.drg_replay.specs.Indices.{is_index}
@@ -28,7 +28,7 @@ use Rattle.drg_replay.specs.Answers.{AllAreMet, progress_of, accepted_class}
 use Rattle.drg_replay.specs.Laws.{ClassLaw}
 use Rattle.drg_replay.specs.Soundness.{GraphLaw, MetSizesLaw, MetRowsLaw}
 use Rattle.drg_replay.proofs.ProgressLaws.{all_are_met, claim_was_met, array_stays, claim_stays, accepted}
-use Rattle.drg_replay.proofs.ResidueLaws.{residue_multiple}
+use Rattle.drg_whole.proofs.Residues.{residue_multiple}
 use Rattle.drg_replay.proofs.StepLaws.{each_holds, both, either, not_met, at_most, is_less, is_same, are_same, is_whole_less}
 use Rattle.drg_replay.proofs.SizeLaws.{Sized, no_sizes, sized, count_is_sum}
 use Rattle.drg_replay.proofs.RowLaws.{Rowed, balance_is, fewer_rows, row_met, set_rowed, first_rowed}

@@ -5,10 +5,10 @@ use Rattle.drg_array.specs.declared.claim.Claim.{Claim}
 use Rattle.drg_array.specs.declared.claim.Claim.TheVariants.{First, Degree, Order, Cross, Size, Intersect, Handshake, Induced, Triangles, Mult}
 use Rattle.drg_replay.specs.Known.{KnownContent}
 use Rattle.drg_replay.specs.Steps.{Step, Holds, Fits, not_built}
-use Rattle.drg_replay.specs.Work.{in_range, sum_of, sum_fits}
-use Rattle.drg_replay.specs.Residues.{divides}
+use Rattle.drg_whole.specs.Range.{in_range}
+use Rattle.drg_whole.specs.Residues.{divides}
 use Rattle.drg_replay.specs.Sizes.{values_of, size_at, is_full, vertex_count}
-use Rattle.drg_replay.specs.Rows.{rows_at, row_stands, entry, balance}
+use Rattle.drg_replay.specs.Rows.{rows_at, row_stands, entry, balance_sum, balance_fits}
 
 -- from 1 to d
 abbrev pub is_distance : Entries → ℕ → Bool
@@ -41,8 +41,8 @@ abbrev pub intersect_closing : Entries → ℕ → List (List ℤ) → ℕ → �
 intersect_closing a h rows i j =
     Holds (nat_le 1 i)
     ∷ Holds (row_stands rows (i - 1))
-    ∷ Fits (sum_fits (balance a h rows (i - 1) j))
-    ∷ Holds (int_lt (sum_of (balance a h rows (i - 1) j)) (pos 0) || not (divides (c_at a i) (sum_of (balance a h rows (i - 1) j))))
+    ∷ Fits (balance_fits a h rows (i - 1) j)
+    ∷ Holds (int_lt (balance_sum a h rows (i - 1) j) (pos 0) || not (divides (c_at a i) (balance_sum a h rows (i - 1) j)))
     ∷ []
 
 -- The conditions on parity go by residues, so they make no work number.

@@ -6,10 +6,8 @@ pub mod Indices
 pub mod Known
 pub mod Laws
 pub mod Lines
-pub mod Residues
 pub mod Roots
 pub mod Rows
 pub mod Sizes
 pub mod Soundness
 pub mod Steps
-pub mod Work

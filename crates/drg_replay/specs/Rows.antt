@@ -3,9 +3,10 @@
 use Rattle.std.specs.Prelude.{ℕ, zero, suc, ◌+◌, nat_eq, nat_le, ℤ, pos, neg_ℤ, ◌*ℤ◌, Bool, not, if◌then◌else◌, List, [], ◌∷◌, ◌++◌, length, slice_index_or}
 use Rattle.std.specs.Ordering.{int_eq}
 use Rattle.drg_array.specs.Entries.{Entries, b_at, c_at, a_at, diameter}
-use Rattle.drg_replay.specs.declared.work.Product.{Product}
+use Rattle.drg_whole.specs.declared.product.Product.{Product}
+use Rattle.drg_whole.specs.Range.{in_range}
+use Rattle.drg_whole.specs.Sums.{products_of, sum_from, sum_fits_from}
 use Rattle.drg_replay.specs.Steps.{Step, Holds, Fits}
-use Rattle.drg_replay.specs.Work.{in_range, sum_of, sum_fits}
 
 -- the rows of h, from row 1 on
 abbrev pub rows_at : List (List (List ℤ)) → ℕ → List (List ℤ)
@@ -48,12 +49,19 @@ balance a h rows i j =
     ∷ of_factors (neg_ℤ (a_at a i)) (entry h rows i j)
     ∷ []
 
+-- N(h,i+1,j)
+abbrev pub balance_sum : Entries → ℕ → List (List ℤ) → ℕ → ℕ → ℤ
+balance_sum a h rows i j = sum_from (pos 0) (products_of (balance a h rows i j))
+
+abbrev pub balance_fits : Entries → ℕ → List (List ℤ) → ℕ → ℕ → Bool
+balance_fits a h rows i j = sum_fits_from (pos 0) (products_of (balance a h rows i j))
+
 -- c_(i+1) v = N(h,i+1,j)
 abbrev pub balance_steps : Entries → ℕ → List (List ℤ) → ℕ → ℕ → ℤ → List Step
 balance_steps a h rows i j value =
     Fits (in_range (pos (c_at a (suc i)) *ℤ value))
-    ∷ Fits (sum_fits (balance a h rows i j))
-    ∷ Holds (int_eq (pos (c_at a (suc i)) *ℤ value) (sum_of (balance a h rows i j)))
+    ∷ Fits (balance_fits a h rows i j)
+    ∷ Holds (int_eq (pos (c_at a (suc i)) *ℤ value) (balance_sum a h rows i j))
     ∷ []
 
 -- the numbers of row i+1 from place j on

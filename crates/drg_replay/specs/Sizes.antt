@@ -3,7 +3,8 @@ use Rattle.std.specs.Prelude.{ℕ, suc, nat_le, nat_eq, ℤ, pos, ◌*ℤ◌, �
 use Rattle.std.specs.Ordering.{int_eq}
 use Rattle.drg_array.specs.Entries.{Entries, b_at, c_at, diameter}
 use Rattle.drg_replay.specs.Steps.{Step, Holds, Fits}
-use Rattle.drg_replay.specs.Work.{in_range, sum_from}
+use Rattle.drg_whole.specs.Range.{in_range}
+use Rattle.drg_whole.specs.Sums.{sum_from}
 
 -- the numbers of the `k` line, and none where it doesn't stand
 abbrev pub values_of : Option (List ℤ) → List ℤ

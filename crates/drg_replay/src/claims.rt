@@ -4,12 +4,12 @@ ghost use Rattle.drg_array.specs.Entries.{diameter};
 ghost use Rattle.drg_replay.specs.Steps.{first_failure};
 ghost use Rattle.drg_replay.specs.Claims.{claim_is_met as the_claim_is_met, is_distance as the_is_distance, size_closing, intersect_closing, closing_steps};
 
+use crate::entries::{see_bounds, times_entry};
 use crate::known::Known;
 use crate::parity::{check_handshake, check_induced, check_triangles, divides};
 use crate::refusal::{Refusal, met_where, not_built};
-use crate::rows::{balance_of, row_stands};
+use crate::rows::{balance_sum, row_stands};
 use crate::sizes::{size_at, values_of};
-use crate::work::{sum_of, times_entry};
 use drg_array::{Array, Claim};
 use drg_derivation::Numbers;
 
@@ -48,12 +48,12 @@ fn check_size(array: &Array, sizes: &Option<Numbers>, i: usize) -> Result<(), Re
     requires high { i ≤ diameter array.now }
     ensures { result ≡ first_failure (size_closing array.now sizes.now i) }
 {
-    let _ = array.d();
+    see_bounds(array);
     if values_of(sizes).len() < i {
         return Err(Refusal::NotMet);
     }
     let product = times_entry(size_at(sizes, i - 1), array.b(i - 1))?;
-    met_where(!divides(array.c(i), product))
+    met_where(!divides(array.c(i), product.value))
 }
 
 /// Whether `intersect h i j` is closed.
@@ -68,12 +68,12 @@ fn check_intersect(
     requires j { j ≤ diameter array.now }
     ensures { result ≡ first_failure (intersect_closing array.now h rows.now i j) }
 {
-    let _ = array.d();
+    see_bounds(array);
     if i == 0 || !row_stands(rows, i - 1) {
         return Err(Refusal::NotMet);
     }
-    let numerator = sum_of(&balance_of(array, h, rows, i - 1, j))?;
-    met_where(numerator < 0 || !divides(array.c(i), numerator))
+    let numerator = balance_sum(array, h, rows, i - 1, j)?;
+    met_where(numerator.value < 0 || !divides(array.c(i), numerator.value))
 }
 
 /// Whether the claim is closed by what is known at the end.
@@ -82,7 +82,7 @@ pub fn check_closing(known: &Known) -> Result<(), Refusal>
 {
     let array = known.array();
     let counts = known.counts();
-    let _ = array.d();
+    see_bounds(array);
     match known.claim() {
         Claim::First => met_where(array.c(1) != 1),
         Claim::Degree { i } => met_where(array.a(usize::from(i)) < 0),

@@ -13,6 +13,7 @@ ghost use Rattle.drg_derivation.specs.declared.line.Line.{Line};
 
 use crate::answer::ReplayFault;
 use crate::claims::{check_closing, claim_is_met};
+use crate::entries::see_bounds;
 use crate::known::Known;
 use crate::laws::{class_law, graph_law};
 use crate::progress::Progress;
@@ -132,7 +133,7 @@ pub fn replay(alloc: Global, derivation: &Derivation) -> Result<Class, ReplayFau
 {
     graph_law();
     class_law();
-    let _ = derivation.array.d();
+    see_bounds(&derivation.array);
     replay_lines(
         alloc,
         &derivation.array,

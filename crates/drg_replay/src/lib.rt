@@ -14,6 +14,7 @@
 mod answer;
 mod claims;
 mod counts;
+mod entries;
 mod frame;
 mod index;
 mod judge;
@@ -25,7 +26,6 @@ mod refusal;
 mod root;
 mod rows;
 mod sizes;
-mod work;
 
 pub use answer::ReplayFault;
 pub use judge::replay;

@@ -1,8 +1,11 @@
 //! Why a line isn't taken.
 ghost use Rattle.std.specs.Prelude.{◌≡◌, ◌∷◌, []};
+ghost use Rattle.std.specs.Ordering.{int_eq};
 ghost use Rattle.drg_replay.specs.Steps.{Holds, first_failure, not_built as the_not_built};
+ghost use Rattle.drg_replay.specs.declared.refusal.Refusal.TheVariants.{Wide as the_wide};
 ghost use Rattle.drg_replay.specs.declared.refusal.Fault.TheVariants.{Memory, Refused};
 
+use drg_whole::{Whole, Wide};
 use std::alloc::AllocError;
 
 /// Why a line isn't met.
@@ -32,11 +35,26 @@ pub fn met_where(condition: bool) -> Result<(), Refusal>
     }
 }
 
+/// Ok where both numbers are the same.
+pub fn met_where_same(left: Whole, right: Whole) -> Result<(), Refusal>
+    ensures { result ≡ first_failure (Holds (int_eq left.value right.value) ∷ []) }
+{
+    met_where(left.value == right.value)
+}
+
 /// The answer where no rule is built yet.
 pub fn not_built() -> Result<(), Refusal>
     ensures { result ≡ first_failure the_not_built }
 {
     Err(Refusal::NotMet)
+}
+
+impl From<Wide> for Refusal {
+    ghost from_gives = { λ _ refusal. refusal ≡ the_wide };
+
+    fn from(_wide: Wide) -> Refusal {
+        Refusal::Wide
+    }
 }
 
 impl From<Refusal> for Fault {

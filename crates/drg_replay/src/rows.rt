@@ -2,12 +2,15 @@
 ghost use Rattle.std.specs.Prelude.{◌≡◌, ◌≤◌, ◌<◌, ◌+◌, suc, neg_ℤ, length, slice_index_or, pos};
 ghost use Rattle.drg_array.specs.Entries.{diameter, c_at, a_at};
 ghost use Rattle.drg_replay.specs.Steps.{first_failure};
-ghost use Rattle.drg_replay.specs.Rows.{entry as the_entry, entry_before as the_entry_before, entry_above as the_entry_above, row_stands as the_row_stands, balance, balance_steps, balances_from, row_steps, of_factors, b_before as the_b_before};
+ghost use Rattle.drg_whole.specs.Range.{Gives};
+ghost use Rattle.drg_whole.specs.Whole.{value_of};
+ghost use Rattle.drg_replay.specs.Rows.{entry as the_entry, entry_before as the_entry_before, entry_above as the_entry_above, row_stands as the_row_stands, balance, balance_sum as the_balance_sum, balance_fits, balance_steps, balances_from, row_steps, of_factors, b_before as the_b_before};
 
-use crate::refusal::Refusal;
-use crate::work::{Product, sum_of, times};
+use crate::entries::{b_before, c_after, see_bounds};
+use crate::refusal::{Refusal, met_where_same};
 use drg_array::Array;
 use drg_derivation::Numbers;
+use drg_whole::{Product, Whole, Wide, sum_onto};
 
 /// Whether row i stands among the rows of an upper index. Row 0 is given.
 pub fn row_stands(rows: &[Numbers], i: usize) -> bool
@@ -51,26 +54,11 @@ fn entry_above(h: usize, rows: &[Numbers], i: usize, j: usize) -> i128
     if i == 0 { 0 } else { entry(h, rows, i - 1, j) }
 }
 
-/// `b_(j-1)`, and 0 for j = 0.
-fn b_before(array: &Array, j: usize) -> u16
-    requires { j ≤ diameter array.now }
-    ensures { result ≡ the_b_before array.now j }
-{
-    if j == 0 { 0 } else { array.b(j - 1) }
-}
-
-/// `c_(j+1)`, and 0 for j = d.
-fn c_after(array: &Array, j: usize) -> u16
-    requires { j ≤ diameter array.now }
-    ensures { result ≡ c_at array.now (suc j) }
-{
-    if j == array.d() { 0 } else { array.c(j + 1) }
-}
-
 /// `b_(j-1) p^h_(i,j-1)`.
 fn term_before(array: &Array, h: usize, rows: &[Numbers], i: usize, j: usize) -> Product
     requires { j ≤ diameter array.now }
-    ensures { result ≡ of_factors (pos (the_b_before array.now j)) (the_entry_before h rows.now i j) }
+    ensures { result ≡
+        of_factors (pos (the_b_before array.now j)) (the_entry_before h rows.now i j) }
 {
     Product {
         left: i128::from(b_before(array, j)),
@@ -92,9 +80,10 @@ fn term_at(array: &Array, h: usize, rows: &[Numbers], i: usize, j: usize) -> Pro
 /// `c_(j+1) p^h_(i,j+1)`.
 fn term_after(array: &Array, h: usize, rows: &[Numbers], i: usize, j: usize) -> Product
     requires { j ≤ diameter array.now }
-    ensures { result ≡ of_factors (pos (c_at array.now (suc j))) (the_entry h rows.now i (suc j)) }
+    ensures { result ≡
+        of_factors (pos (c_at array.now (suc j))) (the_entry h rows.now i (suc j)) }
 {
-    let _ = array.d();
+    see_bounds(array);
     Product {
         left: i128::from(c_after(array, j)),
         right: entry(h, rows, i, j + 1),
@@ -104,7 +93,8 @@ fn term_after(array: &Array, h: usize, rows: &[Numbers], i: usize, j: usize) -> 
 /// `-b_(i-1) p^h_(i-1,j)`.
 fn term_above(array: &Array, h: usize, rows: &[Numbers], i: usize, j: usize) -> Product
     requires { i ≤ diameter array.now }
-    ensures { result ≡ of_factors (neg_ℤ (pos (the_b_before array.now i))) (the_entry_above h rows.now i j) }
+    ensures { result ≡
+        of_factors (neg_ℤ (pos (the_b_before array.now i))) (the_entry_above h rows.now i j) }
 {
     Product {
         left: -i128::from(b_before(array, i)),
@@ -125,7 +115,7 @@ fn term_same(array: &Array, h: usize, rows: &[Numbers], i: usize, j: usize) -> P
 
 /// The terms of `N(h,i+1,j)`.
 #[tactic(auto, unfolding(crate::specs::Rows::balance))]
-pub fn balance_of(array: &Array, h: usize, rows: &[Numbers], i: usize, j: usize) -> [Product; 5]
+fn balance_of(array: &Array, h: usize, rows: &[Numbers], i: usize, j: usize) -> [Product; 5]
     requires j { j ≤ diameter array.now }
     requires i { i < diameter array.now }
     ensures { result ≡ balance array.now h rows.now i j }
@@ -137,6 +127,22 @@ pub fn balance_of(array: &Array, h: usize, rows: &[Numbers], i: usize, j: usize)
         term_above(array, h, rows, i, j),
         term_same(array, h, rows, i, j),
     ]
+}
+
+/// `N(h,i+1,j)`.
+pub fn balance_sum(
+    array: &Array,
+    h: usize,
+    rows: &[Numbers],
+    i: usize,
+    j: usize,
+) -> Result<Whole, Wide>
+    requires j { j ≤ diameter array.now }
+    requires i { i < diameter array.now }
+    ensures { Gives value_of result
+        (balance_fits array.now h rows.now i j) (the_balance_sum array.now h rows.now i j) }
+{
+    sum_onto(Whole::new(0), &balance_of(array, h, rows, i, j))
 }
 
 /// Whether the balance equation holds for this number of row i+1.
@@ -152,13 +158,13 @@ fn check_balance(
     requires i { i < diameter array.now }
     ensures { result ≡ first_failure (balance_steps array.now h rows.now i j value) }
 {
-    let _ = array.d();
-    let left = times(i128::from(array.c(i + 1)), value)?;
-    if left == sum_of(&balance_of(array, h, rows, i, j))? {
-        Ok(())
-    } else {
-        Err(Refusal::NotMet)
+    let left = Product {
+        left: i128::from(c_after(array, i)),
+        right: value,
     }
+    .value()?;
+    let right = balance_sum(array, h, rows, i, j)?;
+    met_where_same(left, right)
 }
 
 /// Whether the balance equation holds for these numbers of row i+1, from place j on.
@@ -174,7 +180,7 @@ fn check_balances(
     requires i { i < diameter array.now }
     ensures { result ≡ first_failure (balances_from array.now h rows.now i j values.now) }
 {
-    let _ = array.d();
+    see_bounds(array);
     match values.split_first() {
         None => Ok(()),
         Some((value, rest)) => {

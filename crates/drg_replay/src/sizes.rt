@@ -4,9 +4,9 @@ ghost use Rattle.drg_array.specs.Entries.{diameter};
 ghost use Rattle.drg_replay.specs.Steps.{first_failure};
 ghost use Rattle.drg_replay.specs.Sizes.{is_full as the_is_full, next_steps, size_at as the_size_at, size_steps, sizes_from, values_of as the_values_of};
 
-use crate::refusal::Refusal;
+use crate::entries::{c_after, see_bounds, times_entry};
+use crate::refusal::{Refusal, met_where_same};
 use crate::rows::number_at;
-use crate::work::times_entry;
 use drg_array::Array;
 use drg_derivation::Numbers;
 
@@ -15,13 +15,9 @@ fn check_next(array: &Array, i: usize, last: i128, value: i128) -> Result<(), Re
     requires { i < diameter array.now }
     ensures { result ≡ first_failure (next_steps array.now i last value) }
 {
-    let _ = array.d();
-    let left = times_entry(value, array.c(i + 1))?;
-    if left == times_entry(last, array.b(i))? {
-        Ok(())
-    } else {
-        Err(Refusal::NotMet)
-    }
+    let left = times_entry(value, c_after(array, i))?;
+    let right = times_entry(last, array.b(i))?;
+    met_where_same(left, right)
 }
 
 /// Whether each of the numbers after `k_i`, which is `last`, is the size that follows.
@@ -29,7 +25,7 @@ fn check_sizes_from(array: &Array, i: usize, last: i128, values: &[i128]) -> Res
     requires { i + length values.now ≤ diameter array.now }
     ensures { result ≡ first_failure (sizes_from array.now i last values.now) }
 {
-    let _ = array.d();
+    see_bounds(array);
     match values.split_first() {
         None => Ok(()),
         Some((value, rest)) => {

@@ -237,6 +237,10 @@ fn negative_numbers_have_their_residues(rt: HostRuntime) -> Result<(), Fail> {
         ]?;
         assert_eq!(rt; answer(alloc, text, claim, lines)?, expected, "{claim:?}");
     }
+    // k_1 p^1_11 is 3·(-1), which is odd.
+    let induced = Claim::Induced { i: 1, j: 1 };
+    let lines = vec![in alloc; sizes(alloc, &[1, 3, 9])?, row(alloc, 1, 1, &[1, -1, 3])?]?;
+    assert_eq!(rt; answer(alloc, "{3,3;1,1}", induced, lines)?, ACCEPTED);
     Ok(())
 }
 
@@ -351,6 +355,106 @@ fn a_frame_out_of_its_place(rt: HostRuntime) -> Result<(), Fail> {
     let counting = Claim::Size { i: 2 };
     let lines = vec![in alloc; sizes(alloc, &[1, 4, 12])?, Line::Frame { root: 13 }]?;
     assert_eq!(rt; answer(alloc, "{4,3;1,1}", counting, lines)?, not_met(5));
+    Ok(())
+}
+
+#[test]
+fn the_first_line_that_decides(rt: HostRuntime) -> Result<(), Fail> {
+    let alloc = rt.alloc();
+    // 2^126, whose double is 2^127.
+    let large = 85070591730234615865843651857942052864;
+    let cases: [(Claim, [&[i128]; 2], Result<Class, ReplayFault>); 4] = [
+        (Claim::First, [&[1, large], &[2]], wide(4)),
+        (Claim::First, [&[2], &[1, large]], not_met(4)),
+        (Claim::First, [&[1, 2], &[1, large]], not_met(5)),
+        (Claim::Degree { i: 3 }, [&[1, large], &[2]], not_met(3)),
+    ];
+    for (claim, [first, second], expected) in cases {
+        let lines = vec![in alloc; sizes(alloc, first)?, sizes(alloc, second)?]?;
+        let given = answer(alloc, "{4,1;2,2}", claim, lines)?;
+        assert_eq!(rt; given, expected, "{claim:?}, {first:?}, {second:?}");
+    }
+    Ok(())
+}
+
+#[test]
+fn many_lines_after_the_one_that_decides(rt: HostRuntime) -> Result<(), Fail> {
+    let alloc = rt.alloc();
+    let mut lines = Vec::new(alloc);
+    for _ in 0..20000 {
+        lines.push(sizes(alloc, &[1, 4])?)?;
+    }
+    assert_eq!(rt;
+        answer(alloc, "{4,1;1,2}", Claim::First, lines)?,
+        not_met(5)
+    );
+    Ok(())
+}
+
+/// The binomial coefficients up to those of 12.
+const CHOICES: [[u16; 13]; 13] = [
+    [1, 0, 0, 0, 0, 0, 0, 0, 0, 0, 0, 0, 0],
+    [1, 1, 0, 0, 0, 0, 0, 0, 0, 0, 0, 0, 0],
+    [1, 2, 1, 0, 0, 0, 0, 0, 0, 0, 0, 0, 0],
+    [1, 3, 3, 1, 0, 0, 0, 0, 0, 0, 0, 0, 0],
+    [1, 4, 6, 4, 1, 0, 0, 0, 0, 0, 0, 0, 0],
+    [1, 5, 10, 10, 5, 1, 0, 0, 0, 0, 0, 0, 0],
+    [1, 6, 15, 20, 15, 6, 1, 0, 0, 0, 0, 0, 0],
+    [1, 7, 21, 35, 35, 21, 7, 1, 0, 0, 0, 0, 0],
+    [1, 8, 28, 56, 70, 56, 28, 8, 1, 0, 0, 0, 0],
+    [1, 9, 36, 84, 126, 126, 84, 36, 9, 1, 0, 0, 0],
+    [1, 10, 45, 120, 210, 252, 210, 120, 45, 10, 1, 0, 0],
+    [1, 11, 55, 165, 330, 462, 462, 330, 165, 55, 11, 1, 0],
+    [1, 12, 66, 220, 495, 792, 924, 792, 495, 220, 66, 12, 1],
+];
+
+fn choices(n: usize, k: usize) -> u32 {
+    if n < 13 && k < 13 {
+        u32::from(CHOICES[n][k])
+    } else {
+        0
+    }
+}
+
+/// How many words of twelve bits are at distances i and j from two that differ in h places. Such a word
+/// leaves the first one in s of these places and in i - s others, and h + i - 2s = j.
+fn words(h: usize, i: usize, j: usize) -> i128 {
+    for s in 0..13 {
+        if s <= i && h.checked_add(i) == j.checked_add(2 * s) {
+            let inside = choices(h, s).checked_mul(choices(12_usize.saturating_sub(h), i - s));
+            return i128::from(inside.unwrap_or(0));
+        }
+    }
+    0
+}
+
+fn rows_of_words(h: usize, i: usize) -> [i128; 13] {
+    let mut values = [0; 13];
+    for j in 0..13 {
+        values[j] = words(h, i, j);
+    }
+    values
+}
+
+#[test]
+fn all_rows_of_the_twelve_cube(rt: HostRuntime) -> Result<(), Fail> {
+    let alloc = rt.alloc();
+    let cube = "{12,11,10,9,8,7,6,5,4,3,2,1;1,2,3,4,5,6,7,8,9,10,11,12}";
+    for (last, expected) in [(1, open(161)), (2, not_met(160))] {
+        let mut lines = Vec::new(alloc);
+        let k: [i128; 13] = [1, 12, 66, 220, 495, 792, 924, 792, 495, 220, 66, 12, 1];
+        lines.push(sizes(alloc, &k)?)?;
+        for h in 0..13 {
+            for i in 1..13 {
+                let mut values = rows_of_words(h, i);
+                if h == 12 && i == 12 {
+                    values[0] = last;
+                }
+                lines.push(row(alloc, h as i128, i as i128, &values)?)?;
+            }
+        }
+        assert_eq!(rt; answer(alloc, cube, Claim::First, lines)?, expected);
+    }
     Ok(())
 }
 
