@@ -16,11 +16,11 @@ use Rattle.drg_intersection.specs.Fits.{Fits}
 use Rattle.drg_intersection.proofs.Ranges.{is_whole}
 use Rattle.drg_intersection.proofs.SizeLaws.{dividend, size_is}
 use Rattle.drg_replay.specs.Steps.{EachHolds}
-use Rattle.drg_replay.specs.Work.{sum_from}
-use Rattle.drg_replay.specs.Residues.{residue, divides}
+use Rattle.drg_whole.specs.Sums.{sum_from}
+use Rattle.drg_whole.specs.Residues.{residue, divides}
 use Rattle.drg_replay.specs.Sizes as sizes
 use Rattle.drg_replay.specs.Claims.{size_closing, intersect_closing, handshake_closing, induced_closing, triangles_closing}
-use Rattle.drg_replay.proofs.ResidueLaws.{of_residue}
+use Rattle.drg_whole.proofs.Residues.{of_residue}
 use Rattle.drg_replay.proofs.StepLaws.{is_same, are_same}
 use Rattle.drg_engine.proofs.StepTests.{at_most, one, in_the_range}
 use Rattle.drg_engine.proofs.RowLines.{AreStated, meet, sum_passes}

@@ -14,8 +14,9 @@ use Rattle.drg_intersection.proofs.Places.{two_cases}
 use Rattle.drg_intersection.proofs.Ranges.{one_whole, sum_out}
 use Rattle.drg_intersection.proofs.Rows.{no_product, five_terms, product_is, negative_is}
 use Rattle.drg_replay.specs.Steps.{EachHolds}
-use Rattle.drg_replay.specs.Work.{in_range, sum_of, sum_fits, products_of}
-use Rattle.drg_replay.specs.Rows.{entry, entry_before, entry_above, b_before, balance, balances_from, row_steps}
+use Rattle.drg_whole.specs.Range.{in_range}
+use Rattle.drg_whole.specs.Sums.{products_of}
+use Rattle.drg_replay.specs.Rows.{entry, entry_before, entry_above, b_before, balance, balance_sum, balance_fits, balances_from, row_steps}
 use Rattle.drg_replay.proofs.StepLaws.{are_same}
 use Rattle.drg_replay.proofs.RowLaws.{start_entry, entry_front, entry_end, length_more}
 use Rattle.drg_engine.proofs.StepTests.{at_most, above, same_whole, same_fits, sum_in_range}
@@ -27,8 +28,8 @@ pub record AreStated (a : Entries) (h : ℕ) (q : ℕ → ℕ → ℚ) (rows : L
 -- the entry of row i + 1 at j
 record CellStep (a : Entries) (h : ℕ) (rows : List (List ℤ)) (i j : ℕ) (value : ℤ) : Type 0 where
   left : in_range (pos (c_at a (suc i)) *ℤ value) ≡ true
-  sum : sum_fits (balance a h rows i j) ≡ true
-  same : int_eq (pos (c_at a (suc i)) *ℤ value) (sum_of (balance a h rows i j)) ≡ true
+  sum : balance_fits a h rows i j ≡ true
+  same : int_eq (pos (c_at a (suc i)) *ℤ value) (balance_sum a h rows i j) ≡ true
 
 cells_hold : (a : Entries) (h : ℕ) (rows : List (List ℤ)) (i j : ℕ) (values : List ℤ)
     → ((k l : ℕ) → l ≡ j + k → k < length values → CellStep a h rows i l (slice_index_or values k (pos 0))) → EachHolds (balances_from a h rows i j values)
@@ -73,7 +74,7 @@ module _ (a : Entries) (h : ℕ) (q : ℕ → ℕ → ℚ) (qs : AreIntersection
         let five = negative_is (a_at a i) _ (q i j) (stated.are i j hi hj) in
         rw (one, two, three, four, five) refl
 
-    numerator_is : numerator a q i j ≡ whole (sum_of (balance a h rows i j))
+    numerator_is : numerator a q i j ≡ whole (balance_sum a h rows i j)
     unfolding balance
     numerator_is =
         let one = first j hj in
@@ -84,10 +85,10 @@ module _ (a : Entries) (h : ℕ) (q : ℕ → ℕ → ℚ) (qs : AreIntersection
         ap₂ plus (ap₂ plus (ap₂ plus (ap₂ plus one two) three) four) five ∙ five_terms _ _ _ _ _
 
     -- what c_(i+1) p^h_(i+1,j) is
-    pub meet : i < diameter a → times (whole (pos (c_at a (suc i)))) (q (suc i) j) ≡ whole (sum_of (balance a h rows i j))
+    pub meet : i < diameter a → times (whole (pos (c_at a (suc i)))) (q (suc i) j) ≡ whole (balance_sum a h rows i j)
     meet inside = qs.next i j inside hj ∙ numerator_is
 
-    pub sum_passes : Fits a (P h (suc i) j) → sum_fits (balance a h rows i j) ≡ true
+    pub sum_passes : Fits a (P h (suc i) j) → balance_fits a h rows i j ≡ true
     sum_passes fits =
         let Q : List ℚ → Type 0 = λ xs. SumFits (whole (pos 0)) xs in
         same_fits (pos 0) (products_of (balance a h rows i j)) ∙ sum_out (pos 0) _ (subst Q products_are (fits q qs))
@@ -95,7 +96,7 @@ module _ (a : Entries) (h : ℕ) (q : ℕ → ℕ → ℚ) (qs : AreIntersection
     cell_step : (value : ℤ) → i < diameter a → q (suc i) j ≡ whole value → Fits a (P h (suc i) j) → CellStep a h rows i j value
     cell_step value inside is fits =
         let sum = sum_passes fits in
-        let same : pos (c_at a (suc i)) *ℤ value ≡ sum_of (balance a h rows i j) = one_whole _ _ (sym (product_is (pos (c_at a (suc i))) value (q (suc i) j) is) ∙ meet inside) in
+        let same : pos (c_at a (suc i)) *ℤ value ≡ balance_sum a h rows i j = one_whole _ _ (sym (product_is (pos (c_at a (suc i))) value (q (suc i) j) is) ∙ meet inside) in
         record {
           left = ap in_range same ∙ sum_in_range (pos 0) (products_of (balance a h rows i j)) refl sum;
           sum = sum;

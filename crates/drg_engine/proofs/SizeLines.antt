@@ -12,7 +12,7 @@ use Rattle.drg_intersection.specs.Fits.{Fits}
 use Rattle.drg_intersection.proofs.Ranges.{one_whole}
 use Rattle.drg_intersection.proofs.SizeLaws.{dividend}
 use Rattle.drg_replay.specs.Steps.{EachHolds}
-use Rattle.drg_replay.specs.Work.{in_range}
+use Rattle.drg_whole.specs.Range.{in_range}
 use Rattle.drg_replay.specs.Sizes.{sizes_from, size_steps}
 use Rattle.drg_engine.proofs.StepTests.{at_most, same_whole, in_the_range}
 

@@ -10,7 +10,8 @@ use Rattle.drg_intersection.specs.Fits.{IsInRange}
 use Rattle.drg_intersection.specs.Work as Table
 use Rattle.drg_intersection.proofs.Ranges.{range_out}
 use Rattle.drg_replay.specs.Steps.{Step, Holds, Fits, EachHolds, first_failure}
-use Rattle.drg_replay.specs.Work.{in_range, sum_from, sum_fits_from}
+use Rattle.drg_whole.specs.Range.{in_range}
+use Rattle.drg_whole.specs.Sums.{sum_from, sum_fits_from}
 
 pub none_fails : (steps : List Step) → EachHolds steps → first_failure steps ≡ Ok tt
 none_fails [] h = refl

@@ -4,6 +4,7 @@ use Rattle.std.specs.Prelude.{ℤ, pos, negsuc, ◌*ℤ◌, ◌⊎◌, int_le, u
 use Rattle.std.specs.List.{AllByRecursion}
 use Rattle.std.proofs.lemmas.Int.{ints, unsigned_abs-mul}
 use Rattle.std.proofs.lemmas.List.{reverse-reverse}
+use Rattle.drg_algebra.proofs.Tests.{both}
 use Rattle.drg_array.specs.Entries.{Entries, IsArray, diameter, c_at}
 use Rattle.drg_array.specs.Conditions.{CountsFail}
 use Rattle.drg_array.specs.declared.claim.Claim.{Claim}
@@ -17,9 +18,9 @@ use Rattle.drg_derivation.specs.Lines.{AreEvidence, AreShort}
 use Rattle.drg_derivation.specs.Text.{IsClaim}
 use Rattle.drg_replay.specs.Known.{KnownContent}
 use Rattle.drg_replay.specs.Steps.{EachHolds}
-use Rattle.drg_replay.specs.Work.{in_range}
+use Rattle.drg_whole.specs.Range.{in_range}
 use Rattle.drg_replay.specs.Sizes.{sizes_from, size_steps}
-use Rattle.drg_replay.specs.Rows.{rows_at, cells_from}
+use Rattle.drg_replay.specs.Rows.{rows_at, balances_from}
 use Rattle.drg_replay.specs.Indices.{is_index}
 use Rattle.drg_replay.specs.Lines.{known_of, steps_of}
 use Rattle.drg_replay.specs.Roots.{IsSquarefreeRoot}
@@ -27,7 +28,7 @@ use Rattle.drg_replay.specs.Answers.{AllAreMet, outcome, progress_of}
 use Rattle.drg_replay.proofs.Soundness.{above_zero}
 use Rattle.drg_replay.proofs.ProgressLaws.{accepted, all_are_met, array_stays}
 use Rattle.drg_replay.proofs.RootLaws.{root_found}
-use Rattle.drg_replay.proofs.StepLaws.{each_holds, both, at_most, is_less, is_same, is_whole_same}
+use Rattle.drg_replay.proofs.StepLaws.{each_holds, at_most, is_less, is_same, is_whole_same}
 use Rattle.drg_engine.specs.Laws.{TextLaw}
 use Rattle.drg_engine.proofs.TakenLines.{onto, all_onto}
 use Rattle.drg_engine.proofs.Acceptance.{answer_is}
@@ -56,7 +57,7 @@ sizes_short a i last [] array inside h = tt
 sizes_short a i last (v ∷ vs) array inside h =
     (short v (c_at a (suc i)) (c-positive a i array (omega (arith, inside))) h.0, sizes_short a (suc i) v vs array (omega (arith, inside)) h.1.1.1)
 
-cells_short : (a : Entries) (h : ℕ) (rows : List (List ℤ)) (i j : ℕ) (values : List ℤ) → IsArray a → suc i ≤ diameter a → EachHolds (cells_from a h rows i j values) → AllByRecursion IsShort values
+cells_short : (a : Entries) (h : ℕ) (rows : List (List ℤ)) (i j : ℕ) (values : List ℤ) → IsArray a → suc i ≤ diameter a → EachHolds (balances_from a h rows i j values) → AllByRecursion IsShort values
 cells_short a h rows i j [] array inside steps = tt
 cells_short a h rows i j (v ∷ vs) array inside steps =
     let turn : pos (c_at a (suc i)) *ℤ v ≡ v *ℤ pos (c_at a (suc i)) = omega (arith, ints) in

@@ -2,6 +2,7 @@
 use Rattle.std.proofs.Common.{◌≡◌, ℕ, zero, suc, ◌+◌, ◌-◌, ◌<◌, ◌≤◌, true, List, [], ◌∷◌, ◌++◌, length, Some, refl, sym, ap, ◌∙◌, subst, arith, inl, inr, Option}
 use Rattle.std.specs.Prelude.{◌⊎◌, ℤ, pos, negsuc, unsigned_abs, int_le, is_none, slice_index_or, slice_set, replicate, Contains}
 use Rattle.std.proofs.lemmas.Int.{ints}
+use Rattle.drg_algebra.proofs.Tests.{both}
 use Rattle.drg_array.specs.Entries.{Entries, diameter}
 use Rattle.drg_array.specs.declared.claim.Claim.{Claim}
 use Rattle.drg_derivation.specs.declared.line.Line.{Line}
@@ -13,7 +14,7 @@ use Rattle.drg_replay.specs.Indices.{is_index}
 use Rattle.drg_replay.specs.Lines.{known_of, steps_of}
 use Rattle.drg_replay.specs.Answers.{AllAreMet}
 use Rattle.drg_replay.specs.Laws.{KnownSizesLaw, IsRow, KnownRowsLaw}
-use Rattle.drg_replay.proofs.StepLaws.{each_holds, both, at_most, not_at_most}
+use Rattle.drg_replay.proofs.StepLaws.{each_holds, at_most, not_at_most}
 use Rattle.drg_replay.proofs.RowLaws.{front, end, length_more, set_at, no_rows_at, two_cases}
 
 -- a line that stands among the earlier ones

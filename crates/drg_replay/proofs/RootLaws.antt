@@ -8,10 +8,10 @@ use Rattle.std.proofs.lemmas.Int.{ints}
 use Rattle.std.proofs.lemmas.Nat.{mul-le}
 use Rattle.std.proofs.lemmas.Nat.Gcd.{le_of_dvd, dvd_of_mod-eq-zero, mod-eq-zero_of_dvd}
 use Rattle.drg_algebra.specs.Root.{IsSquarefree}
-use Rattle.drg_algebra.proofs.Tests.{and-in, or-left, or-right}
+use Rattle.drg_algebra.proofs.Tests.{both, either, and-in, or-left, or-right}
 use Rattle.drg_replay.specs.Indices.{is_index}
 use Rattle.drg_replay.specs.Roots.{has_no_square, is_root, IsSquarefreeRoot, RootLaw}
-use Rattle.drg_replay.proofs.StepLaws.{both, either, not_met, is_less, is_same, are_same}
+use Rattle.drg_replay.proofs.StepLaws.{not_met, is_less, is_same, are_same}
 use Rattle.drg_replay.proofs.RowLaws.{two_cases}
 
 -- a number up to m + 1 that passes

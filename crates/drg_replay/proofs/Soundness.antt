@@ -3,6 +3,7 @@ use Rattle.std.proofs.Common.{◌≡◌, ℕ, zero, suc, ◌+◌, ◌-◌, ◌<�
 use Rattle.std.specs.Prelude.{ℤ, pos, negsuc, unsigned_abs, ◌*ℤ◌, ◌<ℤ◌, ◌≢◌, ◌&&◌, ◌||◌, not, nat_eq, nat_le, nat_lt, int_le}
 use Rattle.std.proofs.lemmas.Int.{ints}
 use Rattle.drg_algebra.specs.Sums.{IsMultiple}
+use Rattle.drg_algebra.proofs.Tests.{both, either}
 use Rattle.drg_array.specs.Entries.{Entries, IsArray, diameter, b_at, c_at}
 use Rattle.drg_array.specs.declared.claim.Claim.{Claim}
 use Rattle.drg_array.specs.declared.claim.Claim.TheVariants as claim
@@ -29,7 +30,7 @@ use Rattle.drg_replay.specs.Laws.{ClassLaw}
 use Rattle.drg_replay.specs.Soundness.{GraphLaw, MetSizesLaw, MetRowsLaw}
 use Rattle.drg_replay.proofs.ProgressLaws.{all_are_met, claim_was_met, array_stays, claim_stays, accepted}
 use Rattle.drg_whole.proofs.Residues.{residue_multiple}
-use Rattle.drg_replay.proofs.StepLaws.{each_holds, both, either, not_met, at_most, is_less, is_same, are_same, is_whole_less}
+use Rattle.drg_replay.proofs.StepLaws.{each_holds, not_met, at_most, is_less, is_same, are_same, is_whole_less}
 use Rattle.drg_replay.proofs.SizeLaws.{Sized, no_sizes, sized, count_is_sum}
 use Rattle.drg_replay.proofs.RowLaws.{Rowed, balance_is, fewer_rows, row_met, set_rowed, first_rowed}
 

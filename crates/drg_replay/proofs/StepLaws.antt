@@ -1,6 +1,6 @@
 -- What the tests say that a met line has passed.
-use Rattle.std.proofs.Common.{◌≡◌, ℕ, ◌<◌, ◌≤◌, Bool, true, false, List, [], ◌∷◌, Ok, refl, arith, inl, inr}
-use Rattle.std.specs.Prelude.{ℤ, ◌<ℤ◌, ◌&&◌, ◌||◌, not, ◌⊎◌, nat_le, nat_lt, nat_eq, int_lt}
+use Rattle.std.proofs.Common.{◌≡◌, ℕ, ◌<◌, ◌≤◌, Bool, true, false, List, [], ◌∷◌, Ok, refl, arith}
+use Rattle.std.specs.Prelude.{ℤ, ◌<ℤ◌, not, nat_le, nat_lt, nat_eq, int_lt}
 use Rattle.std.specs.Ordering.{int_eq}
 use Rattle.std.proofs.lemmas.Bool.Decides.{nat_tests, Decides-int_eq}
 use Rattle.std.proofs.lemmas.Int.{ints}
@@ -12,14 +12,6 @@ each_holds (Holds true ∷ steps) h = (refl, each_holds steps h)
 each_holds (Holds false ∷ steps) h = cc
 each_holds (Fits true ∷ steps) h = (refl, each_holds steps h)
 each_holds (Fits false ∷ steps) h = cc
-
-pub both : (a b : Bool) → (a && b) ≡ true → (a ≡ true) × (b ≡ true)
-both true b h = (refl, h)
-both false b h = cc
-
-pub either : (a b : Bool) → (a || b) ≡ true → (a ≡ true) ⊎ (b ≡ true)
-either true b h = inl refl
-either false b h = inr h
 
 pub not_met : (a : Bool) → not a ≡ true → a ≡ true → ⊥
 not_met true h e = cc

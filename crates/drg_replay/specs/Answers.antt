@@ -26,7 +26,8 @@ outcome k line = first_failure (steps_of k line)
 -- each of these lines is met after those before it; the newest of them stands first
 abbrev pub AllAreMet : Entries → Claim → List Line → Type 0
 AllAreMet a claim [] = ⊤
-AllAreMet a claim (line ∷ earlier) = AllAreMet a claim earlier × (outcome (known_of a claim earlier) line ≡ Ok tt)
+AllAreMet a claim (line ∷ earlier) =
+    AllAreMet a claim earlier × (outcome (known_of a claim earlier) line ≡ Ok tt)
 
 -- lines that are all met so far, after one that comes to this and has this number
 abbrev pub decided_by : Result ⊤ Refusal → KnownContent → ℕ → Progress
@@ -38,16 +39,19 @@ abbrev pub goes_on : Progress → Line → ℕ → Progress
 goes_on (AllMet k) line n = decided_by (outcome k line) (known_after line k) n
 goes_on (Decided refusal m) line n = Decided refusal m
 
--- what these lines come to, the newest of them first; the claim is line 3, and the lines after it begin at 4
+-- what these lines come to, the newest of them first; the claim is line 3, and evidence begins at 4
 abbrev pub progress_of : Entries → Claim → List Line → Progress
-progress_of a claim [] = if claim_is_met a claim then AllMet (known_at_start a claim) else Decided refusal.NotMet 3
-progress_of a claim (line ∷ earlier) = goes_on (progress_of a claim earlier) line (length earlier + 4)
+progress_of a claim [] =
+    if claim_is_met a claim then AllMet (known_at_start a claim) else Decided refusal.NotMet 3
+progress_of a claim (line ∷ earlier) =
+    goes_on (progress_of a claim earlier) line (length earlier + 4)
 
 -- the class of an accepted derivation: spectral where a `frame` line stands
 abbrev pub accepted_class : KnownContent → Class
 accepted_class k = if is_some k.frame then Spectral else Counting
 
--- the answer at the end line, which has this number, after lines that are all met, by what the end itself comes to
+-- the answer at the end line, which has this number, by what the end comes to after lines that are
+-- all met
 abbrev pub closed_by : Result ⊤ Refusal → Class → ℕ → Result Class ReplayFault
 closed_by (Ok t) class n = Ok class
 closed_by (Err refusal.NotMet) class n = Err (answer.Open n)
@@ -67,8 +71,9 @@ answer_after a claim lines = answer_at (progress_of a claim lines) (length lines
 abbrev pub answer_of : Content → Result Class ReplayFault
 answer_of δ = answer_after δ.array δ.claim (reverse δ.lines)
 
--- a call that takes a line: what the line came to, and what is known then; want of memory changes nothing
+-- a call that takes a line: what the line comes to, and what is known then; a refusal and want of
+-- memory change nothing
 abbrev pub TakesLine : Result ⊤ Fault → Line → KnownContent → KnownContent → Type 0
 TakesLine (Ok t) line old new = (outcome old line ≡ Ok tt) × (new ≡ known_after line old)
-TakesLine (Err (fault.Refused refusal)) line old new = (outcome old line ≡ Err refusal) × (new ≡ old)
+TakesLine (Err (fault.Refused r)) line old new = (outcome old line ≡ Err r) × (new ≡ old)
 TakesLine (Err fault.Memory) line old new = new ≡ old

@@ -1,4 +1,5 @@
--- What a claim asks: at its line, that its indices are in the range of its test; and at the end, that it is closed.
+-- What a claim asks: at its line, that its indices are in the range of its test; and at the end,
+-- that it is closed.
 use Rattle.std.specs.Prelude.{ℕ, suc, ◌+◌, ◌-◌, nat_eq, nat_lt, nat_le, ℤ, pos, int_lt, ◌*ℤ◌, Bool, true, false, ◌&&◌, ◌||◌, not, List, [], ◌∷◌, length, Option}
 use Rattle.drg_array.specs.Entries.{Entries, diameter, b_at, c_at, a_at}
 use Rattle.drg_array.specs.declared.claim.Claim.{Claim}
@@ -21,12 +22,17 @@ claim_is_met a (Degree i) = is_distance a i
 claim_is_met a (Order i) = nat_le 1 i && nat_lt i (diameter a)
 claim_is_met a (Cross i j) = nat_le 1 i && nat_le (i + j) (diameter a)
 claim_is_met a (Size i) = is_distance a i
-claim_is_met a (Intersect h i j) = nat_le h (diameter a) && nat_le i (diameter a) && nat_le j (diameter a)
+claim_is_met a (Intersect h i j) =
+    nat_le h (diameter a) && nat_le i (diameter a) && nat_le j (diameter a)
 claim_is_met a (Handshake i) = is_distance a i
 claim_is_met a (Induced i j) = is_distance a i && is_distance a j
 claim_is_met a (Triangles i) = is_distance a i
 claim_is_met a (Mult i) = is_distance a i
 claim_is_met a _ = false
+
+-- b_i < b_(i+1), or c_(i+1) < c_i
+abbrev pub breaks_order : Entries → ℕ → Bool
+breaks_order a i = nat_lt (b_at a i) (b_at a (suc i)) || nat_lt (c_at a (suc i)) (c_at a i)
 
 -- c_i doesn't divide v_(i-1) b_(i-1)
 abbrev pub size_closing : Entries → Option (List ℤ) → ℕ → List Step
@@ -39,10 +45,11 @@ size_closing a sizes i =
 -- N(h,i,j) is negative, or c_i doesn't divide it
 abbrev pub intersect_closing : Entries → ℕ → List (List ℤ) → ℕ → ℕ → List Step
 intersect_closing a h rows i j =
+    let numerator = balance_sum a h rows (i - 1) j in
     Holds (nat_le 1 i)
     ∷ Holds (row_stands rows (i - 1))
     ∷ Fits (balance_fits a h rows (i - 1) j)
-    ∷ Holds (int_lt (balance_sum a h rows (i - 1) j) (pos 0) || not (divides (c_at a i) (balance_sum a h rows (i - 1) j)))
+    ∷ Holds (int_lt numerator (pos 0) || not (divides (c_at a i) numerator))
     ∷ []
 
 -- The conditions on parity go by residues, so they make no work number.
@@ -74,7 +81,7 @@ triangles_closing a sizes rows i =
 abbrev pub closing_of : KnownContent → Claim → List Step
 closing_of k First = Holds (not (nat_eq (c_at k.array 1) 1)) ∷ []
 closing_of k (Degree i) = Holds (int_lt (a_at k.array i) (pos 0)) ∷ []
-closing_of k (Order i) = Holds (nat_lt (b_at k.array i) (b_at k.array (suc i)) || nat_lt (c_at k.array (suc i)) (c_at k.array i)) ∷ []
+closing_of k (Order i) = Holds (breaks_order k.array i) ∷ []
 closing_of k (Cross i j) = Holds (nat_lt (b_at k.array j) (c_at k.array i)) ∷ []
 closing_of k (Size i) = size_closing k.array k.counts.sizes i
 closing_of k (Intersect h i j) = intersect_closing k.array h (rows_at k.counts.rows h) i j

@@ -16,7 +16,8 @@ use Rattle.drg_replay.specs.Answers.{AllAreMet, progress_of, answer_after, answe
 
 -- the class of an accepted derivation is spectral exactly where a `frame` line stands
 abbrev pub ClassLaw : Type 0
-ClassLaw = (δ : Content) (class : Class) → answer_of δ ≡ Ok class → class ≡ accepted_class (known_at_end δ)
+ClassLaw =
+    (δ : Content) (class : Class) → answer_of δ ≡ Ok class → class ≡ accepted_class (known_at_end δ)
 
 -- ---- What lines come to after others
 
@@ -28,14 +29,15 @@ moved_down n (Err (Open line)) = Err (Open (line + n))
 moved_down n (Err (Wide line)) = Err (Wide (line + n))
 moved_down n (Err Memory) = Err Memory
 
--- What further lines come to depends on what is known before them and on nothing else: after other lines,
--- of another array and claim, that make the same known, the answer is the same but for the numbers of the
--- lines. All lists of lines have the newest first.
+-- What further lines come to depends on what is known before them and on nothing else: after other
+-- lines, of another array and claim, that make the same known, the answer is the same but for the
+-- numbers of the lines. All lists of lines have the newest first.
 abbrev pub KnownAloneLaw : Type 0
 KnownAloneLaw =
     (a b : Entries) (claim other : Claim) (lines others further : List Line) (k : KnownContent)
     → progress_of a claim lines ≡ AllMet k → progress_of b other others ≡ AllMet k
-    → moved_down (length others) (answer_after a claim (further ++ lines)) ≡ moved_down (length lines) (answer_after b other (further ++ others))
+    → moved_down (length others) (answer_after a claim (further ++ lines))
+    ≡ moved_down (length lines) (answer_after b other (further ++ others))
 
 -- ---- What stands
 
@@ -53,5 +55,7 @@ pub record IsRow (rows : List (List ℤ)) (i : ℕ) (values : List ℤ) : Type 0
 -- and the rows of h that are known are those of its `p` lines, each at the index of its line
 abbrev pub KnownRowsLaw : Type 0
 KnownRowsLaw =
-    (a : Entries) (claim : Claim) (lines : List Line) (h i : ℕ) (values : List ℤ) → AllAreMet a claim lines
-    → IsRow (rows_at (known_of a claim lines).counts.rows h) i values ↔ Contains lines (P (pos h) (pos (suc i)) values)
+    (a : Entries) (claim : Claim) (lines : List Line) (h i : ℕ) (values : List ℤ)
+    → AllAreMet a claim lines
+    → IsRow (rows_at (known_of a claim lines).counts.rows h) i values
+    ↔ Contains lines (P (pos h) (pos (suc i)) values)

@@ -16,7 +16,8 @@ use Rattle.drg_replay.specs.Rows.{rows_at, row_steps}
 
 -- one more row of an upper index
 abbrev pub with_row : CountContent → ℕ → List ℤ → CountContent
-with_row counts h row = record counts { rows = slice_set counts.rows h (rows_at counts.rows h ++ row ∷ []) }
+with_row counts h row =
+    record counts { rows = slice_set counts.rows h (rows_at counts.rows h ++ row ∷ []) }
 
 -- Each group says which lines change it, and how. No other line does.
 
@@ -31,14 +32,16 @@ frame_after _ frame = frame
 
 -- what is known after one more line
 abbrev pub known_after : Line → KnownContent → KnownContent
-known_after line k = record k { counts = counts_after line k.counts; frame = frame_after line k.frame }
+known_after line k =
+    record k { counts = counts_after line k.counts; frame = frame_after line k.frame }
 
 -- before the first line there are no sizes, and no rows of each upper index from 0 to d
 abbrev pub counts_at_start : Entries → CountContent
 counts_at_start a = record { sizes = None; rows = replicate (diameter a + 1) [] }
 
 abbrev pub known_at_start : Entries → Claim → KnownContent
-known_at_start a claim = record { array = a; claim = claim; counts = counts_at_start a; frame = None }
+known_at_start a claim =
+    record { array = a; claim = claim; counts = counts_at_start a; frame = None }
 
 -- after these lines, the newest of them first
 abbrev pub known_of : Entries → Claim → List Line → KnownContent
@@ -55,8 +58,9 @@ known_at_end δ = known_of δ.array δ.claim (reverse δ.lines)
 abbrev pub steps_of : KnownContent → Line → List Step
 steps_of k (K values) = size_steps k.array k.counts.sizes values
 steps_of k (P h i values) =
+    let upper = unsigned_abs h in
     Holds (is_index 0 h (diameter k.array))
     ∷ Holds (is_index 1 i (diameter k.array))
-    ∷ row_steps k.array (unsigned_abs h) (rows_at k.counts.rows (unsigned_abs h)) (unsigned_abs i - 1) values
+    ∷ row_steps k.array upper (rows_at k.counts.rows upper) (unsigned_abs i - 1) values
 steps_of k (Frame root) = frame_steps k root
 steps_of k _ = not_built

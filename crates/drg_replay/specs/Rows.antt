@@ -67,7 +67,8 @@ balance_steps a h rows i j value =
 -- the numbers of row i+1 from place j on
 abbrev pub balances_from : Entries → ℕ → List (List ℤ) → ℕ → ℕ → List ℤ → List Step
 balances_from a h rows i j [] = []
-balances_from a h rows i j (v ∷ vs) = balance_steps a h rows i j v ++ balances_from a h rows i (suc j) vs
+balances_from a h rows i j (v ∷ vs) =
+    balance_steps a h rows i j v ++ balances_from a h rows i (suc j) vs
 
 -- row i+1 of h, after the rows of h
 abbrev pub row_steps : Entries → ℕ → List (List ℤ) → ℕ → List ℤ → List Step

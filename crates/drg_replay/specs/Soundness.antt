@@ -18,22 +18,27 @@ GraphLaw = (δ : Content) → IsArray δ.array → answer_of δ ≡ Ok Counting 
 
 -- the stated sizes are the counts at each vertex of the graph
 abbrev pub SizesAreCounts : Graph → KnownContent → Type 0
-SizesAreCounts g k = (x i : ℕ) → IsTrue (is_vertex g x) → i < length (values_of k.counts.sizes) → size_at k.counts.sizes i ≡ pos (sphere g i x)
+SizesAreCounts g k =
+    (x i : ℕ) → IsTrue (is_vertex g x) → i < length (values_of k.counts.sizes)
+    → size_at k.counts.sizes i ≡ pos (sphere g i x)
 
 -- the stated rows of each h are the counts for each two vertices of the graph at distance h
 abbrev pub RowsAreCounts : Graph → KnownContent → Type 0
 RowsAreCounts g k =
-    (h x y i j : ℕ) → HasDistance g h x y → i ≤ length (rows_at k.counts.rows h) → j ≤ diameter k.array
+    (h x y i j : ℕ) → HasDistance g h x y
+    → i ≤ length (rows_at k.counts.rows h) → j ≤ diameter k.array
     → entry h (rows_at k.counts.rows h) i j ≡ pos (pairs_at g i j x y)
 
 -- a met `k` line states the counts in every graph of the array
 abbrev pub MetSizesLaw : Type 0
 MetSizesLaw =
-    (g : Graph) (a : Entries) (claim : Claim) (lines : List Line) → IsArray a → IsDistanceRegular g a
-    → AllAreMet a claim lines → SizesAreCounts g (known_of a claim lines)
+    (g : Graph) (a : Entries) (claim : Claim) (lines : List Line)
+    → IsArray a → IsDistanceRegular g a → AllAreMet a claim lines
+    → SizesAreCounts g (known_of a claim lines)
 
 -- and so do met `p` lines
 abbrev pub MetRowsLaw : Type 0
 MetRowsLaw =
-    (g : Graph) (a : Entries) (claim : Claim) (lines : List Line) → IsArray a → IsDistanceRegular g a
-    → AllAreMet a claim lines → RowsAreCounts g (known_of a claim lines)
+    (g : Graph) (a : Entries) (claim : Claim) (lines : List Line)
+    → IsArray a → IsDistanceRegular g a → AllAreMet a claim lines
+    → RowsAreCounts g (known_of a claim lines)

@@ -34,8 +34,8 @@ pub fn known_alone_law()
     ensures { KnownAloneLaw }
 {}
 
-/// The sizes that are known are those of the `k` line, and in a graph that has the array they are the
-/// counts of vertices at each distance, at each vertex.
+/// The sizes that are known are those of the `k` line, and in a graph that has the array they are
+/// the counts of vertices at each distance, at each vertex.
 pub fn met_sizes_law()
     ensures stated { KnownSizesLaw }
     ensures counts { MetSizesLaw }
@@ -53,8 +53,8 @@ pub fn met_rows_law()
     rows_law();
 }
 
-/// The root of a met `frame` line is 0, or squarefree above 1 and below 2^32, and each such number is
-/// taken.
+/// The root of a met `frame` line is 0, or squarefree above 1 and below 2^32, and each such number
+/// is taken.
 pub fn root_law()
     ensures { RootLaw }
 {}

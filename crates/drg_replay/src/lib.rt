@@ -1,14 +1,15 @@
 //! Judges a derivation by its written lines alone, without the tables and searches that found it.
 //!
-//! The answer of a derivation is a definition on the list of its lines (specs/Answers.antt): a line is
-//! met, or not, by a list of conditions on what the lines before it make known (specs/Lines.antt), and
-//! the first line that decides gives the answer. `replay` gives exactly that answer. A derivation that
-//! is accepted with the class Counting excludes every graph, and the numbers of met lines are counts in
-//! every graph of the array (specs/Soundness.antt).
+//! The answer of a derivation is a definition on the list of its lines (specs/Answers.antt): a line
+//! is met, or not, by a list of conditions on what the lines before it make known
+//! (specs/Lines.antt), and the first line that decides gives the answer. `replay` gives exactly
+//! that answer. A derivation that is accepted with the class Counting excludes every graph, and the
+//! numbers of met lines are counts in every graph of the array (specs/Soundness.antt). What further
+//! lines come to depends on what is known before them alone (specs/Laws.antt).
 //!
 //! The rules that are built are those of the claims first, degree, order, cross, size, intersect,
-//! handshake, induced and triangles and of the lines `k`, `p` and `frame`. The claim mult is met, and
-//! is never closed yet. No other claim or line is met yet.
+//! handshake, induced and triangles and of the lines `k`, `p` and `frame`. The claim mult is met,
+//! and is never closed yet. No other claim or line is met yet.
 #![tactic(auto)]
 
 mod answer;
