@@ -1,5 +1,5 @@
 #!/usr/bin/env python3
-"""Runs the program on every example, and compares what it prints and its exit number.
+"""Runs the program on every example, and compares what it writes on each stream and its exit number.
 
 Usage: python3 tools/check_examples.py
 
@@ -9,7 +9,10 @@ Usage: python3 tools/check_examples.py
   that name in examples/derivations and the verdict on its claim. The report is the same where that test
   is the only one selected. Where it is one that can be selected and none is, the array is a survivor.
 - Each derivation, and each such report, is accepted by `drg replay` and by tools/replay.py.
+- Each text of examples/refused has the answer of its row in examples/README.md, by both. A text that is
+  no derivation is named on standard error by the one, and on standard output by the other.
 - Each array of examples whose name begins with wide is undecided, by the number that WIDE names.
+- Each fault of FAULTS ends with its line on standard error and its exit number, and nothing is written.
 - examples/petersen.txt and examples/degree.txt are copies of the files of their names further down.
 - Each example of man/drg.1 prints what the page shows.
 
@@ -22,7 +25,7 @@ import subprocess
 import sys
 import tempfile
 from pathlib import Path
-from typing import List, NamedTuple
+from typing import NamedTuple
 
 TOP = Path(__file__).resolve().parent.parent
 EXAMPLES = TOP / "examples"
@@ -37,15 +40,37 @@ WIDE = {
 }
 COPIES = {"petersen": "graphs", "degree": "fails"}
 ROW = re.compile(r"\| [^|]+ \| `(?P<file>\w+)` \| `(?P<array>\{[\d,;]+\})` \| (?P<n>\d+) \|")
+REFUSED_ROW = re.compile(r"\| `(?P<file>\w+)` \| `(?P<answer>(?:rejected|undecided|bad input,)[^`]+)` \|")
 EXAMPLE = re.compile(r"^\.EX\n\$ (?P<command>.*)\n(?P<printed>(?:.*\n)*?)\.EE$", re.MULTILINE)
-SURVIVOR, INFEASIBLE, UNDECIDED, ACCEPTED = 0, 1, 3, 0
+SURVIVOR, INFEASIBLE, UNDECIDED, ACCEPTED, REJECTED, BAD_INPUT = 0, 1, 3, 0, 5, 65
+# The exit number of an answer that isn't `accepted`, by its first word.
+REFUSED_STATUS = {"rejected": REJECTED, "undecided": UNDECIDED, "bad": BAD_INPUT}
+# Each fault of a run: the command, where $drg stands for the program, its line, and its exit number.
+FAULTS = [
+    ("$drg", "usage", 64),
+    ("$drg check", "usage", 64),
+    ("$drg check --tests mult examples/petersen.txt", "usage", 64),
+    ("$drg check $'\\xff'", "usage", 64),
+    ("echo '{3,2;1}' | $drg check /dev/stdin", "bad input, line 1, place 7", BAD_INPUT),
+    ("$drg check /dev/null", "bad input, line 1, place 1", BAD_INPUT),
+    ("$drg replay examples/petersen.txt", "bad input, line 1, place 0", BAD_INPUT),
+    ("head -c 67108865 /dev/zero | $drg check /dev/stdin", "input too long", 66),
+    ("head -c 67108865 /dev/zero | $drg replay /dev/stdin", "input too long", 66),
+    ("$drg check examples/nothing.txt", "cannot open", 67),
+    ("$drg replay examples/nothing.txt", "cannot open", 67),
+    ("$drg check examples", "cannot read", 68),
+    ("$drg replay examples", "cannot read", 68),
+    ("$drg check examples/petersen.txt >/dev/full", "cannot write", 69),
+    ("$drg replay examples/derivations/size.txt >/dev/full", "cannot write", 69),
+]
 LIMIT_SECONDS = 3600
 
 
 class Ran(NamedTuple):
-    """What a command printed on standard output and standard error, in that order, and its exit number."""
+    """What a command wrote on standard output and on standard error, and its exit number."""
 
-    lines: List[str]
+    out: bytes
+    err: bytes
     status: int
 
 
@@ -59,22 +84,34 @@ def run(*words):
         stderr=subprocess.PIPE,
         timeout=LIMIT_SECONDS,
     )
-    text = (done.stdout + done.stderr).decode("utf-8", "replace")
-    lines = text.split("\n")[:-1] if text.endswith("\n") else text.split("\n") if text else []
-    return Ran(lines, done.returncode)
+    return Ran(done.stdout, done.stderr, done.returncode)
 
 
 def drg(*words):
     return run(TOP / "bin" / "drg", *words)
 
 
+def other_replayer(path):
+    return run(sys.executable, "tools/replay.py", path)
+
+
+def writes(lines, status):
+    """A run that writes these lines on standard output and nothing on standard error."""
+    return Ran("".join(line + "\n" for line in lines).encode(), b"", status)
+
+
+def complains(line, status):
+    """A run that writes nothing but this line on standard error."""
+    return Ran(b"", f"drg: {line}\n".encode(), status)
+
+
 def holds(case, wanted, found):
-    """Whether a command printed and answered what is wanted; where it didn't, says so."""
+    """Whether a command wrote and answered what is wanted; where it didn't, says so."""
     if wanted == found:
         return True
     print(case)
     for title, ran in (("wanted:", wanted), ("found: ", found)):
-        print("\n".join(f"  {title} {line}" for line in ran.lines + [f"exit {ran.status}"]))
+        print(f"  {title} {ran.out!r}\n          error {ran.err!r}\n          exit {ran.status}")
     return False
 
 
@@ -105,7 +142,7 @@ def sizes(array):
 
 def survivor(array, n, k, passed):
     lines = ["verdict survivor", f"array {array}", "passed " + " ".join(passed), f"n {n}"]
-    return Ran(lines + ["sizes " + " ".join(map(str, k))], SURVIVOR)
+    return writes(lines + ["sizes " + " ".join(map(str, k))], SURVIVOR)
 
 
 def graph_cases():
@@ -130,7 +167,7 @@ def failing_cases():
         derivation = content(f"derivations/{test}").split("\n")[:-1]
         claim = claim_of(derivation)
         yield is_true(f"examples/derivations/{test}.txt: claims {test}", claim.split(" ")[0] == test)
-        wanted = Ran(derivation + [f"verdict infeasible {claim} counting"], INFEASIBLE)
+        wanted = writes(derivation + [f"verdict infeasible {claim} counting"], INFEASIBLE)
         yield holds(f"drg check {name}", wanted, drg("check", name))
         if test in SELECTABLE:
             yield holds(f"drg check --tests {test} {name}", wanted, drg("check", "--tests", test, name))
@@ -151,13 +188,34 @@ def replay_cases():
         for test in TESTS:
             derivation = EXAMPLES / "derivations" / f"{test}.txt"
             report = Path(folder) / f"{test}.txt"
-            printed = drg("check", f"examples/fails/{test}.txt").lines
-            report.write_text("".join(line + "\n" for line in printed), encoding="utf-8")
+            report.write_bytes(drg("check", f"examples/fails/{test}.txt").out)
             claim = claim_of(content(f"derivations/{test}").split("\n"))
-            wanted = Ran([f"accepted {claim} counting"], ACCEPTED)
+            wanted = writes([f"accepted {claim} counting"], ACCEPTED)
             for path in (derivation, report):
                 yield holds(f"drg replay {path}", wanted, drg("replay", path))
-                yield holds(f"tools/replay.py {path}", wanted, run(sys.executable, "tools/replay.py", path))
+                yield holds(f"tools/replay.py {path}", wanted, other_replayer(path))
+
+
+def refused_cases():
+    """The texts that aren't accepted, by both replayers, against the table."""
+    page = (EXAMPLES / "README.md").read_text(encoding="utf-8")
+    rows = {row["file"]: row["answer"] for row in REFUSED_ROW.finditer(page)}
+    same = rows.keys() == names_in("refused")
+    yield is_true("examples/README.md: its table has each file of examples/refused and no other", same)
+    for file, answer in sorted(rows.items()):
+        path = f"examples/refused/{file}.txt"
+        status = REFUSED_STATUS[answer.split(" ")[0]]
+        is_text = status != BAD_INPUT
+        wanted = writes([answer], status) if is_text else complains(f"{answer}, place 0", status)
+        yield holds(f"drg replay {path}", wanted, drg("replay", path))
+        yield holds(f"tools/replay.py {path}", writes([answer], status), other_replayer(path))
+
+
+def fault_cases():
+    """The faults of a run, each with its line."""
+    for command, line, status in FAULTS:
+        found = run("bash", "-c", f"drg={TOP / 'bin' / 'drg'}; {command}")
+        yield holds(command.replace("$drg", "drg"), complains(line, status), found)
 
 
 def wide_cases():
@@ -166,7 +224,7 @@ def wide_cases():
     yield is_true("examples: has the wide arrays and no other", found == WIDE.keys())
     for name, (passed, pending) in WIDE.items():
         array = content(name).strip()
-        wanted = Ran(["verdict undecided", f"array {array}", f"passed {passed}", f"pending {pending}"], UNDECIDED)
+        wanted = writes(["verdict undecided", f"array {array}", f"passed {passed}", f"pending {pending}"], UNDECIDED)
         yield holds(f"drg check examples/{name}.txt", wanted, drg("check", f"examples/{name}.txt"))
 
 
@@ -183,14 +241,15 @@ def page_cases():
     yield is_true("man/drg.1: has examples of one command each", 0 < len(examples) == page.count("\n.EX\n"))
     for example in examples:
         found = run("bash", "-c", example["command"])
-        wanted = Ran(example["printed"].split("\n")[:-1], found.status)
-        yield holds(f"man/drg.1: {example['command']}", wanted, found)
+        wanted = Ran(example["printed"].encode(), b"", found.status)
+        yield holds(f"man/drg.1: {example['command']}", wanted, found._replace(out=found.out + found.err, err=b""))
 
 
 def main():
     subprocess.run([TOP / "bin" / "drg"], stdout=subprocess.DEVNULL, check=False)  # builds it once, and says so
     passed = failed = 0
-    for cases in (graph_cases, failing_cases, replay_cases, wide_cases, copy_cases, page_cases):
+    groups = (graph_cases, failing_cases, replay_cases, refused_cases, wide_cases, fault_cases, copy_cases, page_cases)
+    for cases in groups:
         for held in cases():
             if held:
                 passed += 1

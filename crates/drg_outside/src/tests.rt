@@ -5,6 +5,7 @@ use crate::{
     write_all,
 };
 use std::alloc::{AllocError, Global};
+use std::fs;
 use std::test::Fail;
 
 /// Inputs whose first file `f` has this content, between a longer name and a second `f`.
@@ -48,20 +49,6 @@ fn the_limit_decides(rt: HostRuntime) -> Result<(), Fail> {
 }
 
 #[test]
-fn a_long_input_keeps_what_was_not_taken(rt: HostRuntime) -> Result<(), Fail> {
-    let alloc = rt.alloc();
-    let mut inputs = files_with(alloc, b"hello, world", 100, &[])?;
-    assert_eq!(rt; inputs.open("f"), Ok(()));
-    assert_eq!(rt;
-        read_all(alloc, &mut inputs, 6).err(),
-        Some(ReadAllFault::TooLong)
-    );
-    let rest = read_all(alloc, &mut inputs, 6)?;
-    assert_eq!(rt; rest.as_slice(), b"world".as_slice());
-    Ok(())
-}
-
-#[test]
 fn reads_sizes_around_a_piece(rt: HostRuntime) -> Result<(), Fail> {
     let alloc = rt.alloc();
     for size in [1, 65_535, 65_536, 65_537, 131_072, 200_000] {
@@ -72,22 +59,6 @@ fn reads_sizes_around_a_piece(rt: HostRuntime) -> Result<(), Fail> {
         assert_eq!(rt; inputs.open("f"), Ok(()));
         let fault = read_all(alloc, &mut inputs, size.saturating_sub(1)).err();
         assert_eq!(rt; fault, Some(ReadAllFault::TooLong));
-    }
-    Ok(())
-}
-
-#[test]
-fn each_call_fails_where_it_was_asked_for(rt: HostRuntime) -> Result<(), Fail> {
-    let alloc = rt.alloc();
-    // The open is call 1. The reads give 2, 2, 1 and 0 bytes: calls 2 to 5.
-    for number in 1..8 {
-        let mut inputs = files_with(alloc, b"hello", 2, &[number])?;
-        assert_eq!(rt; inputs.open("f").is_err(), number == 1);
-        let fault = read_all(alloc, &mut inputs, 10).err();
-        assert_eq!(rt;
-            fault,
-            (2 <= number && number <= 5).then_some(ReadAllFault::Read)
-        );
     }
     Ok(())
 }
@@ -147,17 +118,53 @@ fn a_full_sink_refuses(rt: HostRuntime) -> Result<(), Fail> {
 }
 
 #[test]
-fn a_missing_file_and_a_folder_fail(rt: HostRuntime) -> Result<(), Fail> {
+fn a_file_gives_its_bytes(rt: HostRuntime) -> Result<(), Fail> {
+    // The test writes the file itself, and takes it away before it looks at what was read.
+    let name = "known_bytes_of_a_test";
+    fs::write(&rt, name, "hello, world")?;
     let mut inputs = RealInputs::new(&rt);
-    let mut buf = [0; 3];
-    assert_eq!(rt; inputs.open("no such folder/no such file"), Err(Failed));
-    assert_eq!(rt; inputs.read(&mut buf), Ok(0));
+    let mut buf = [0; 5];
+    let opened = inputs.open(name);
+    let first = inputs.read(&mut buf);
+    let rest = read_all(rt.alloc(), &mut inputs, 100);
+    let at_end = inputs.read(&mut buf);
+    fs::remove_file(&rt, name)?;
+    assert_eq!(rt; opened, Ok(()));
+    assert_eq!(rt; first, Ok(5));
+    assert_eq!(rt; buf, *b"hello");
+    assert_eq!(rt; rest?.as_slice(), b", world".as_slice());
+    assert_eq!(rt; at_end, Ok(0));
+    Ok(())
+}
+
+#[test]
+fn a_failed_open_leaves_no_file_open(rt: HostRuntime) -> Result<(), Fail> {
+    let name = "old_file_of_a_test";
+    fs::write(&rt, name, "hello, world")?;
+    let mut inputs = RealInputs::new(&rt);
+    let mut buf = [0; 5];
+    let before = inputs.read(&mut buf);
+    let opened = inputs.open(name);
+    let first = inputs.read(&mut buf);
+    let missing = inputs.open("no such folder/no such file");
+    let after = inputs.read(&mut buf);
+    let again = inputs.open(name);
+    let anew = inputs.read(&mut buf);
+    fs::remove_file(&rt, name)?;
+    assert_eq!(rt; before, Ok(0));
+    assert_eq!(rt; (opened, first), (Ok(()), Ok(5)));
+    assert_eq!(rt; (missing, after), (Err(Failed), Ok(0)));
+    assert_eq!(rt; (again, anew), (Ok(()), Ok(5)));
+    assert_eq!(rt; buf, *b"hello");
+    Ok(())
+}
+
+#[test]
+fn a_folder_has_no_bytes(rt: HostRuntime) -> Result<(), Fail> {
+    let mut inputs = RealInputs::new(&rt);
+    let mut buf = [0; 5];
     let is_open = inputs.open(".").is_ok();
-    assert_eq!(rt;
-        inputs.read(&mut buf).is_err(),
-        is_open,
-        "a folder has no bytes"
-    );
+    assert_eq!(rt; inputs.read(&mut buf).is_err(), is_open);
     Ok(())
 }
 

@@ -32,7 +32,7 @@ pub fn read_all<I: Inputs>(
     ensures all { IfOk result (λ v. TakesAll (I.left inputs.old) (I.left inputs.new) v.items) }
     ensures short { IfOk result (λ v. vec_len v ≤ limit) }
 
-    // The cause of each refusal, and what it has taken. Memory is want of memory and has no other cause.
+    // The cause of each refusal, and what it has taken. Memory is want of memory alone.
     ensures read { IsErrOf result ReadAllFault.Read
         → Rose (I.read_faults inputs.old) (I.read_faults inputs.new) }
     ensures read_takes { IsErrOf result ReadAllFault.Read
