@@ -1,10 +1,10 @@
 -- The numbers of a text, one after the other.
 use Rattle.std.proofs.Common.{◌≡◌, ℕ, zero, suc, ◌+◌, ◌<◌, List, [], ◌∷◌, ◌++◌, length, drop, get_or, None, Some, refl, sym, ap, ◌∙◌, arith, append_assoc, append-nil, ℤ}
-use Rattle.std.specs.Prelude.{Option, ◌==◌, true, false}
+use Rattle.std.specs.Prelude.{Option, ◌==◌, true, false, unwrap_or}
 use Rattle.std.proofs.lemmas.List.{nil_from_length}
 use Rattle.std.proofs.lemmas.Bool.Decides.{nat_tests}
 use Rattle.std.specs.Option.{option_map}
-use Rattle.drg_derivation.specs.Reading.{spaced_at, integers_at, integers_of, with_front, ◌>>=◌}
+use Rattle.drg_derivation.specs.Reading.{spaced_at, integers_at, integers_of, integers_in, AreRead, ◌>>=◌}
 use Rattle.drg_derivation.proofs.OptionLaws.{same_some, bound}
 use Rattle.drg_derivation.proofs.IntegerLaws.{spaced_at-less, integers_at-room}
 
@@ -40,45 +40,23 @@ pub integers_of-last : (bytes : List ℕ) (zs : List ℤ) → spaced_at bytes �
 integers_of-last [] zs e all = sym (same_some [] zs (sym integers_of-nil ∙ all))
 integers_of-last (c ∷ cs) zs e all = (let none = integers_of-none (c ∷ cs) (omega arith) e in cc)
 
-pub drop-first : {A : Type 0} (xs others : List A) (i : ℕ) (x y : A) → drop i xs ≡ x ∷ others → (drop (i + 1) xs ≡ others) × (get_or xs i y ≡ x) × (i < length xs)
-drop-first [] others zero x y e = (let h = e in cc)
-drop-first [] others (suc i) x y e = (let h = e in cc)
-drop-first (z ∷ zs) others zero x y e = (let h = e in (cc, cc, omega arith))
-drop-first (z ∷ zs) others (suc i) x y e =
-    let d = drop-first zs others i x y e in
-    let next : suc i + 1 ≡ suc (i + 1) = omega arith in
-    (rw next d.0, d.1, omega (arith, d.2))
+-- what was read at the front of a text of numbers, and the text that is left
+pub record IsFirstRead (bytes more : List ℕ) (z : ℤ) : Type 0 where
+  pub first : integers_in bytes ≡ z ∷ integers_in more
+  pub left : AreRead more
 
-pub drop-some : {A : Type 0} (xs : List A) (i : ℕ) → i < length xs → drop i xs ≡ [] → ⊥
-drop-some [] i h e = omega (arith, h)
-drop-some (x ∷ xs) zero h e = (let k = e in cc)
-drop-some (x ∷ xs) (suc i) h e = drop-some xs i (omega (arith, h)) e
+pub first_read : (bytes more : List ℕ) (z : ℤ) → spaced_at bytes ≡ Some (z, more) → AreRead bytes → IsFirstRead bytes more z
+first_read bytes more z e read =
+    let f = integers_of-first bytes z more (integers_in bytes) e read in
+    let same : integers_in more ≡ f.0 = ap (λ (o : Option (List ℤ)). unwrap_or o []) f.2 in
+    record { first = f.1 ∙ ap (λ (l : List ℤ). z ∷ l) (sym same); left = f.2 ∙ ap (λ (l : List ℤ). Some l) (sym same) }
 
--- one number further
-pub integers_of-next : (bytes more : List ℕ) (z y : ℤ) (zs : List ℤ) (i : ℕ) → spaced_at bytes ≡ Some (z, more) → integers_of bytes ≡ Some (drop i zs)
-    → (integers_of more ≡ Some (drop (i + 1) zs)) × (get_or zs i y ≡ z)
-integers_of-next bytes more z y zs i e all =
-    let f = integers_of-first bytes z more (drop i zs) e all in
-    let d = drop-first zs f.0 i z y f.1 in
-    (rw d.0 f.2, d.1)
-
-pub integers_of-over : {C : Type 0} (bytes : List ℕ) (zs : List ℤ) (i : ℕ) → i < length zs → spaced_at bytes ≡ None → integers_of bytes ≡ Some (drop i zs) → C
-integers_of-over bytes zs i h e all = absurd (drop-some zs i h (integers_of-last bytes (drop i zs) e all))
+pub all_read : (bytes : List ℕ) → spaced_at bytes ≡ None → AreRead bytes → integers_in bytes ≡ []
+all_read bytes e read = integers_of-last bytes (integers_in bytes) e read
 
 pub count-more : (k : ℕ) (z : ℤ) (o : Option (List ℤ)) → option_map (λ zs. (k + 1) + length zs) o ≡ option_map (λ zs. k + length zs) (o >>= λ zs. Some (z ∷ zs))
 count-more k z None = refl
 count-more k z (Some zs) = (let same : (k + 1) + length zs ≡ k + suc (length zs) = omega arith in rw same refl)
-
-pub front-more : (front : List ℤ) (z : ℤ) (o : Option (List ℤ)) → with_front (front ++ z ∷ []) o ≡ with_front front (o >>= λ zs. Some (z ∷ zs))
-front-more front z None = refl
-front-more front z (Some zs) = rw (append_assoc front (z ∷ []) zs) refl
-
-pub front-all : (front all : List ℤ) (bytes : List ℕ) → spaced_at bytes ≡ None → with_front front (integers_of bytes) ≡ Some all → front ≡ all
-front-all front all bytes e read = of (integers_of bytes) refl read
-  where
-    of : (o : Option (List ℤ)) → integers_of bytes ≡ o → with_front front o ≡ Some all → front ≡ all
-    of None is h = (let k = h in cc)
-    of (Some zs) is h = (let none = integers_of-last bytes zs e is in sym (append-nil front) ∙ (ap (λ l. front ++ l) (sym none) ∙ same_some (front ++ zs) all h))
 
 some-bytes : (bytes : List ℕ) → (length bytes == 0) ≡ false → 0 < length bytes
 some-bytes bytes e = grind (arith, nat_tests)

@@ -1,19 +1,21 @@
 -- Words are found by their names, and stand before the first space.
-use Rattle.std.proofs.Common.{◌≡◌, ℕ, zero, suc, ◌+◌, ◌<◌, inl, inr, Bool, true, false, List, [], ◌∷◌, ◌++◌, length, drop, get_or, Some, refl, sym, ap, subst, ◌∙◌, arith}
-use Rattle.std.specs.Prelude.{bytes_eq, cond, ◌==◌, codes}
+use Rattle.std.proofs.Common.{◌≡◌, ℕ, zero, suc, ◌+◌, ◌<◌, inl, inr, Bool, true, false, List, [], ◌∷◌, ◌++◌, length, drop, get_or, None, Some, refl, sym, ap, subst, ◌∙◌, arith}
+use Rattle.std.specs.Prelude.{Option, is_some, bytes_eq, cond, ◌==◌, codes}
 use Rattle.std.proofs.lemmas.Slice.Eq.{bytes_eq-Decides}
 use Rattle.drg_array.specs.Claims.{test_name}
 use Rattle.drg_array.specs.declared.test.Test.{Test}
 use Rattle.drg_array.specs.declared.test.Test.TheVariants as test
-use Rattle.drg_derivation.specs.Lines.{kind_name}
-use Rattle.drg_derivation.specs.Written.{word_text}
-use Rattle.drg_derivation.specs.Reading.{named, word_part, rest_part, tests, words, test_named, word_named, claim_at, word_at, after_byte}
+use Rattle.drg_derivation.specs.Reading.{after_byte}
+use Rattle.drg_derivation.specs.Words.{word_text, name_text, takes_name}
+use Rattle.drg_derivation.specs.WordReading.{named, word_part, rest_part, tests, test_named, test_at, kind_word, kind_named, other_word, word_of, word_named, word_at, name_at}
 use Rattle.drg_derivation.specs.declared.kind.Kind.{Kind}
 use Rattle.drg_derivation.specs.declared.kind.Kind.TheVariants as kind
+use Rattle.drg_derivation.specs.declared.kind.TheConstants.{KINDS}
 use Rattle.drg_derivation.specs.declared.word.Word.{Word}
 use Rattle.drg_derivation.specs.declared.word.Word.TheVariants.{Drg, Array, Claim, Evidence, End}
+use Rattle.drg_derivation.specs.declared.word.TheConstants.{OTHER_WORDS}
 use Rattle.drg_derivation.proofs.OptionLaws.{chosen, same_some, bound}
-use Rattle.drg_derivation.proofs.IntegerLaws.{after_byte-is}
+use Rattle.drg_derivation.proofs.IntegerLaws.{after_byte-is, after_byte-same}
 
 -- the name at this place isn't the text
 pub named-next : {A : Type 0} (name : A → List ℕ) (xs : List A) (i : ℕ) (y : A) (text t : List ℕ) → i < length xs → t ≡ name (get_or xs i y)
@@ -25,8 +27,7 @@ named-next name (x ∷ xs) (suc i) y text t h is e =
     let next : suc i + 1 ≡ suc (i + 1) = omega arith in
     rw next (named-next name xs i y text t (omega (arith, h)) is e)
 
--- a first byte that is no space goes with the word
-pub parts : (text : List ℕ) → text ≡ word_part text ++ rest_part text
+parts : (text : List ℕ) → text ≡ word_part text ++ rest_part text
 parts [] = refl
 parts (c ∷ cs) = by (c == 32) (parts cs)
   where
@@ -37,7 +38,7 @@ parts (c ∷ cs) = by (c == 32) (parts cs)
 same_bytes : (xs ys : List ℕ) → bytes_eq xs ys ≡ true → xs ≡ ys
 same_bytes xs ys e = (bytes_eq-Decides xs ys).0 e
 
-pub named-is : {A : Type 0} (name : A → List ℕ) (xs : List A) (text : List ℕ) (y : A) → named name xs text ≡ Some y → text ≡ name y
+named-is : {A : Type 0} (name : A → List ℕ) (xs : List A) (text : List ℕ) (y : A) → named name xs text ≡ Some y → text ≡ name y
 named-is name [] text y e = (let none = e in cc)
 named-is name (x ∷ xs) text y e =
     elim (chosen (bytes_eq text (name x)) _ _ _ e) [
@@ -45,23 +46,41 @@ named-is name (x ∷ xs) text y e =
       | inr other ↦ named-is name xs text y other.1
     ]
 
-claim_at-takes : (rest : List ℕ) (w : Word) (more : List ℕ) → claim_at rest ≡ Some (w, more) → codes "claim" ++ rest ≡ word_text w ++ more
-unfolding claim_at test_named
-claim_at-takes rest w more e =
-    let after = bound (after_byte 32 rest) _ _ e in
-    let t = bound (test_named (word_part after.0)) _ _ after.2 in
-    let name = named-is test_name tests (word_part after.0) t.0 t.1 in
-    let whole : rest ≡ 32 ∷ (test_name t.0 ++ rest_part after.0) = after_byte-is 32 rest after.0 after.1 ∙ ap (λ l. 32 ∷ l) (parts after.0 ∙ ap (λ l. l ++ rest_part after.0) name) in
-    subst (λ (x : Word × List ℕ). codes "claim" ++ rest ≡ word_text x.0 ++ x.1) (same_some _ _ t.2) (ap (λ l. codes "claim" ++ l) whole)
+word_named-is : (text : List ℕ) (w : Word) → word_named text ≡ Some w → text ≡ word_text w
+unfolding word_named kind_named other_word
+word_named-is text w e = of (kind_named text) refl e
+  where
+    of : (k : Option Kind) → kind_named text ≡ k → word_of k (other_word text) ≡ Some w → text ≡ word_text w
+    of None is h = named-is word_text OTHER_WORDS text w h
+    of (Some k) is h = named-is kind_word KINDS text k is ∙ ap word_text (same_some (Evidence k) w h)
 
 pub word_at-takes : (text : List ℕ) (w : Word) (rest : List ℕ) → word_at text ≡ Some (w, rest) → text ≡ word_text w ++ rest
-unfolding word_at word_named
+unfolding word_at
 word_at-takes text w rest e =
-    elim (chosen (bytes_eq (word_part text) (codes "claim")) _ _ _ e) [
-      | inl claim ↦ parts text ∙ (ap (λ l. l ++ rest_part text) (same_bytes _ _ claim.0) ∙ claim_at-takes (rest_part text) w rest claim.1)
-      | inr other ↦ (let b = bound (word_named (word_part text)) _ _ other.1 in
-          let name = named-is word_text words (word_part text) b.0 b.1 in
-          subst (λ (x : Word × List ℕ). text ≡ word_text x.0 ++ x.1) (same_some _ _ b.2) (parts text ∙ ap (λ l. l ++ rest_part text) name))
+    let b = bound (word_named (word_part text)) _ _ e in
+    let name = word_named-is (word_part text) b.0 b.1 in
+    subst (λ (x : Word × List ℕ). text ≡ word_text x.0 ++ x.1) (same_some _ _ b.2) (parts text ∙ ap (λ l. l ++ rest_part text) name)
+
+-- the second word that was read
+pub record TakesName (w : Word) (text : List ℕ) (name : Option Test) (rest : List ℕ) : Type 0 where
+  pub whole : text ≡ name_text name ++ rest
+  pub named : takes_name w ≡ is_some name
+
+test_at-takes : (w : Word) (text : List ℕ) (name : Option Test) (rest : List ℕ) → takes_name w ≡ true → test_at text ≡ Some (name, rest) → TakesName w text name rest
+unfolding test_at test_named
+test_at-takes w text name rest takes e =
+    let after = bound (after_byte 32 text) _ _ e in
+    let t = bound (test_named (word_part after.0)) _ _ after.2 in
+    let is = named-is test_name tests (word_part after.0) t.0 t.1 in
+    let whole : text ≡ 32 ∷ (test_name t.0 ++ rest_part after.0) = after_byte-is 32 text after.0 after.1 ∙ ap (λ l. 32 ∷ l) (parts after.0 ∙ ap (λ l. l ++ rest_part after.0) is) in
+    subst (λ (x : Option Test × List ℕ). TakesName w text x.0 x.1) (same_some _ _ t.2) (record { whole = whole; named = takes })
+
+pub name_at-takes : (w : Word) (text : List ℕ) (name : Option Test) (rest : List ℕ) → name_at w text ≡ Some (name, rest) → TakesName w text name rest
+unfolding name_at
+name_at-takes w text name rest e =
+    elim (chosen (takes_name w) _ _ _ e) [
+      | inl takes ↦ test_at-takes w text name rest takes.0 takes.1
+      | inr none ↦ subst (λ (x : Option Test × List ℕ). TakesName w text x.0 x.1) (same_some _ _ none.1) (record { whole = refl; named = none.0 })
     ]
 
 -- nothing, or a space in front
@@ -77,46 +96,22 @@ all_rest : (rest : List ℕ) → IsSpaced rest → rest_part rest ≡ rest
 all_rest [] s = refl
 all_rest (c ∷ cs) s = rw s refl
 
-kind-again : (k : Kind) (rest : List ℕ) → word_part rest ≡ [] → rest_part rest ≡ rest → word_at (kind_name k ++ rest) ≡ Some (Evidence k, rest)
-unfolding word_at word_named
+kind-again : (k : Kind) (rest : List ℕ) → word_part rest ≡ [] → rest_part rest ≡ rest → word_at (kind_word k ++ rest) ≡ Some (Evidence k, rest)
+unfolding word_at word_named kind_named
 kind-again kind.K rest a b = rw (a, b) refl
-kind-again kind.P rest a b = rw (a, b) refl
-kind-again kind.Frame rest a b = rw (a, b) refl
-kind-again kind.Theta rest a b = rw (a, b) refl
-kind-again kind.Prow rest a b = rw (a, b) refl
-kind-again kind.Qrow rest a b = rw (a, b) refl
-kind-again kind.Krein rest a b = rw (a, b) refl
-kind-again kind.Eq rest a b = rw (a, b) refl
-kind-again kind.Keq rest a b = rw (a, b) refl
-kind-again kind.Comb rest a b = rw (a, b) refl
-kind-again kind.Low rest a b = rw (a, b) refl
-kind-again kind.High rest a b = rw (a, b) refl
-kind-again kind.Split rest a b = rw (a, b) refl
-kind-again kind.Miss rest a b = rw (a, b) refl
-kind-again kind.Mod rest a b = rw (a, b) refl
-kind-again kind.Void rest a b = rw (a, b) refl
-
-claim-again : (t : Test) (rest : List ℕ) → word_part rest ≡ [] → rest_part rest ≡ rest → word_at (codes "claim " ++ test_name t ++ rest) ≡ Some (Claim t, rest)
-unfolding word_at claim_at test_named
-claim-again test.First rest a b = rw (a, b) refl
-claim-again test.Degree rest a b = rw (a, b) refl
-claim-again test.Order rest a b = rw (a, b) refl
-claim-again test.Cross rest a b = rw (a, b) refl
-claim-again test.Size rest a b = rw (a, b) refl
-claim-again test.Intersect rest a b = rw (a, b) refl
-claim-again test.Handshake rest a b = rw (a, b) refl
-claim-again test.Induced rest a b = rw (a, b) refl
-claim-again test.Triangles rest a b = rw (a, b) refl
-claim-again test.Mult rest a b = rw (a, b) refl
-claim-again test.Krein rest a b = rw (a, b) refl
-claim-again test.Absolute rest a b = rw (a, b) refl
-claim-again test.Triple rest a b = rw (a, b) refl
-claim-again test.Ktriple rest a b = rw (a, b) refl
+kind-again _ rest a b = rw (a, b) refl
 
 pub word_at-again : (w : Word) (rest : List ℕ) → IsSpaced rest → word_at (word_text w ++ rest) ≡ Some (w, rest)
-unfolding word_at word_named
-word_at-again Drg rest s = rw (no_word rest s, all_rest rest s) refl
-word_at-again Array rest s = rw (no_word rest s, all_rest rest s) refl
-word_at-again End rest s = rw (no_word rest s, all_rest rest s) refl
-word_at-again (Claim t) rest s = claim-again t rest (no_word rest s) (all_rest rest s)
+unfolding word_at word_named kind_named other_word
 word_at-again (Evidence k) rest s = kind-again k rest (no_word rest s) (all_rest rest s)
+word_at-again _ rest s = rw (no_word rest s, all_rest rest s) refl
+
+test-again : (t : Test) (rest : List ℕ) → word_part rest ≡ [] → rest_part rest ≡ rest → test_at (name_text (Some t) ++ rest) ≡ Some (Some t, rest)
+unfolding test_at test_named
+test-again test.First rest a b = rw (a, b) refl
+test-again _ rest a b = rw (a, b) refl
+
+pub name_at-again : (w : Word) (name : Option Test) (rest : List ℕ) → takes_name w ≡ is_some name → IsSpaced rest → name_at w (name_text name ++ rest) ≡ Some (name, rest)
+unfolding name_at
+name_at-again w None rest takes s = rw takes refl
+name_at-again w (Some t) rest takes s = rw takes (test-again t rest (no_word rest s) (all_rest rest s))

@@ -1,10 +1,13 @@
 pub mod Integers
+pub mod Reading
+pub mod Shapes
 pub mod Lines
-pub mod Written
+pub mod Words
+pub mod WordReading
+pub mod Header
+pub mod LineReading
+pub mod Places
 pub mod Content
 pub mod Text
-pub mod Reading
-pub mod Places
-pub mod Header
 pub mod Faults
 pub mod Laws

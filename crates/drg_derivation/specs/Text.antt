@@ -1,37 +1,42 @@
 -- The grammar of derivation texts.
-use Rattle.std.specs.Prelude.{ℕ, ◌≤◌, List, [], ◌∷◌, ◌++◌, length, take}
-use Rattle.std.specs.List.{AllByRecursion}
-use Rattle.drg_array.specs.Entries.{IsArray, diameter}
-use Rattle.drg_array.specs.Claims.{indices_of}
-use Rattle.drg_array.specs.declared.claim.Claim.{Claim}
+use Rattle.std.specs.Prelude.{ℕ, ◌≤◌, List, [], ◌∷◌, ◌++◌, length, map, take}
+use Rattle.drg_array.specs.Entries.{Entries, IsArray, diameter}
 use Rattle.drg_derivation.specs.Content.{Content}
 use Rattle.drg_derivation.specs.Lines.{AreEvidence, AreShort}
-use Rattle.drg_derivation.specs.Written.{Written, AreWritten, written_texts, version_line, array_line, claim_line, evidence_lines, end_line}
+use Rattle.drg_derivation.specs.Places.{AreLinesFrom}
+use Rattle.drg_derivation.specs.Shapes.{first_context}
+use Rattle.drg_derivation.specs.Words.{IsClaim, written, written_text}
+use Rattle.drg_derivation.specs.declared.context.Context.{Context}
+use Rattle.drg_derivation.specs.declared.line.Line.{Line}
+use Rattle.drg_derivation.specs.declared.place.Place.TheVariants as place
+use Rattle.drg_derivation.specs.declared.view.LineView.{LineView}
+use Rattle.drg_derivation.specs.declared.view.LineView.TheVariants.{Version, Array, Claim, Evidence, End}
 
--- the lines of a derivation
-abbrev pub lines_of : Content → List Written
-lines_of δ = version_line ∷ array_line δ.array ∷ claim_line δ.claim ∷ (evidence_lines δ.lines ++ end_line ∷ [])
+abbrev pub evidence_views : List Line → List LineView
+evidence_views lines = map Evidence lines
 
--- the indices of a claim are from 0 to 255
-abbrev pub IsClaim : Claim → Type 0
-IsClaim claim = AllByRecursion (λ n. n ≤ 255) (indices_of claim)
+-- the lines of a derivation, of which the first says that this is version 1 of the text
+abbrev pub lines_of : Content → List LineView
+lines_of δ = Version 1 ∷ Array δ.array ∷ Claim δ.claim ∷ (evidence_views δ.lines ++ End ∷ [])
 
--- a field number is written by two numbers before any `frame` line
-abbrev pub first_width : ℕ
-first_width = 2
+-- each line stands at its place, and one LF after each
+abbrev pub IsDerivationText : List ℕ → Content → Type 0
+IsDerivationText text δ = AreLinesFrom place.Version text (lines_of δ) place.After
 
-pub record IsDerivationText (text : List ℕ) (δ : Content) : Type 0 where
-  pub lines : AreWritten text (lines_of δ)
-  pub array : IsArray δ.array
-  pub claim : IsClaim δ.claim
-  pub evidence : AreEvidence (diameter δ.array) first_width δ.lines
+-- what the array settles of the lines after the claim
+abbrev pub context_of : Entries → Context
+context_of array = first_context 1 (diameter array)
 
 -- what has a text
 pub record HasText (δ : Content) : Type 0 where
   pub array : IsArray δ.array
   pub claim : IsClaim δ.claim
-  pub evidence : AreEvidence (diameter δ.array) first_width δ.lines
+  pub evidence : AreEvidence (context_of δ.array) δ.lines
   pub short : AreShort δ.lines
+
+abbrev pub written_texts : List LineView → List ℕ
+written_texts [] = []
+written_texts (line ∷ lines) = written_text (written line) ++ 10 ∷ written_texts lines
 
 -- the one text
 abbrev pub derivation_text : Content → List ℕ

@@ -1,14 +1,17 @@
 //! Derivations, whole.
 
-ghost use Rattle.std.specs.Prelude.{◌≡◌, ◌≤◌, ◌↔◌, IsTrue, IsSome, IfSome, List, length};
-ghost use Rattle.std.specs.List.{AllByRecursion};
+ghost use Rattle.std.specs.Prelude.{◌≡◌, ◌↔◌, IsTrue, IsSome, IfSome};
 ghost use Rattle.drg_derivation.specs.Lines.{AreFit};
-ghost use Rattle.drg_derivation.specs.Text.{HasText, IsClaim};
+ghost use Rattle.drg_derivation.specs.Text.{HasText};
+ghost use Rattle.drg_derivation.specs.Words.{IsClaim};
 
-use crate::Line;
-use crate::place::{has_count, width_after};
+use crate::header::claim_indices;
+use crate::{Context, Line};
 use drg_array::{Array, Claim};
 use std::marker::Model;
+
+/// The version of the text that a derivation is written in.
+pub const FIRST_VERSION: u8 = 1;
 
 /// An array, the claim that it fails, and the lines that show it. It always has a text: each line has
 /// as many numbers as its place asks for, and each number can be written.
@@ -36,8 +39,9 @@ impl Derivation {
         ensures some { IsSome result ↔ HasText (record { array = array; claim = claim; lines = lines.items }) }
         ensures parts { IfSome result (λ δ. δ ≡ record { array = array; claim = claim; lines = lines.items }) }
     {
-        see_claim(&claim);
-        if lines_fit(array.d() as u8, &lines) {
+        show_indices_are_bytes(&claim);
+        let context = Context::start(FIRST_VERSION, array.d() as u8);
+        if lines_fit(context, &lines) {
             Some(Derivation {
                 array,
                 claim,
@@ -49,44 +53,24 @@ impl Derivation {
     }
 }
 
-/// Whether the lines after the claim fit at their places, for an array of diameter d.
-fn lines_fit(d: u8, lines: &[Line]) -> bool
-    ensures { IsTrue result ↔ AreFit d 2 lines.now }
+/// Whether the lines after the claim fit at their places, the first of them in this context.
+fn lines_fit(context: Context, lines: &[Line]) -> bool
+    ensures { IsTrue result ↔ AreFit context lines.now }
 {
-    let mut width = 2;
+    let mut context = context;
     'lines: for line in lines {
-        let kind = line.kind();
-        let first = line.first();
-        if !has_count(d, width, kind, first, line.count()) || !line.is_short() {
+        let parts = line.parts();
+        if !context.suits(parts.kind, parts.first(), parts.count()) || !parts.is_short() {
             return false;
         }
-        width = width_after(width, kind, first);
+        context = context.after(parts.kind, parts.first());
     }
     true
 }
 
-/// The indices of a claim are bytes.
-fn see_claim(claim: &Claim)
+/// For the proof alone: the indices of a claim are bytes.
+fn show_indices_are_bytes(claim: &Claim)
     ensures { IsClaim claim.now }
 {
-    match claim {
-        Claim::First => {}
-        Claim::Degree { i }
-        | Claim::Order { i }
-        | Claim::Size { i }
-        | Claim::Handshake { i }
-        | Claim::Triangles { i }
-        | Claim::Mult { i } => {
-            let _seen = *i;
-        }
-        Claim::Cross { i, j } | Claim::Induced { i, j } | Claim::Absolute { i, j } => {
-            let _seen = (*i, *j);
-        }
-        Claim::Intersect { h, i, j } | Claim::Krein { i, j, h } => {
-            let _seen = (*h, *i, *j);
-        }
-        Claim::Triple { u, v, w } | Claim::Ktriple { u, v, w } => {
-            let _seen = (*u, *v, *w);
-        }
-    }
+    let _indices = claim_indices(claim);
 }

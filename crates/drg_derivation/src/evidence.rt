@@ -1,139 +1,110 @@
-//! An evidence line, made from the line in the bytes.
+//! Evidence lines over lent bytes.
 
-ghost use Rattle.std.specs.Prelude.{◌≡◌, IfOk, length};
-ghost use Rattle.drg_derivation.specs.Lines.{CanHave, front_len as front_len_of, IsFixed, IsListed, IsLong, kind_of, numbers_of};
+ghost use Rattle.std.specs.Prelude.{◌≡◌, ◌≤◌, ◌<◌, ℕ, pos, take, drop, length, slice_index_or, IfOk};
+ghost use Rattle.drg_derivation.specs.Lines.{IsMade, kind_of, line_made, numbers_of};
 
-use crate::{Kind, Line, LineView};
+use crate::integers::LineNumbers;
+use crate::line::MAX_LEADING;
+use crate::written::WrittenLine;
+use crate::{Kind, Line, NumberList};
 use std::alloc::{AllocError, Global};
+use std::marker::Model;
 
-/// The evidence line of this kind with the numbers of the line in the bytes.
-pub fn line_of(alloc: Global, kind: Kind, line: &LineView) -> Result<Line, AllocError>
-    requires { CanHave kind (length line.now.numbers) }
-    ensures kind { IfOk result (λ made. kind_of made ≡ kind) }
-    ensures numbers { IfOk result (λ made. numbers_of made ≡ line.now.numbers) }
-{
-    match kind {
-        Kind::K | Kind::P | Kind::Theta | Kind::Prow | Kind::Qrow | Kind::Krein | Kind::Comb =>
-            listed_line_of(alloc, kind, line),
-        _ => Ok(fixed_line_of(kind, line)),
+/// An evidence line over lent bytes, with as many numbers as its kind asks for at its place.
+#[derive(Debug, Drop)]
+pub struct EvidenceView<'a> {
+    kind: Kind,
+    text: &'a [u8],
+    count: usize,
+}
+
+impl<'a> Model for EvidenceView<'a> {
+    ghost use Rattle.drg_derivation.specs.declared.line.Line.{Line};
+    ghost use Rattle.drg_derivation.specs.Lines.{IsLent, line_made};
+    ghost use Rattle.drg_derivation.specs.Reading.{integers_in};
+
+    ghost Value = { Line };
+
+    ghost view = { λ e. line_made e.kind (integers_in e.text.now) };
+
+    ghost invariant = { λ e. IsLent e.kind e.text.now e.count };
+}
+
+impl<'a> EvidenceView<'a> {
+    /// The evidence line of this kind, whose numbers are as many as the kind has.
+    pub(crate) fn of(kind: Kind, line: &WrittenLine<'a>) -> EvidenceView<'a>
+        requires { IsMade kind line.now.numbers }
+        ensures { result ≡ line_made kind line.now.numbers }
+    {
+        EvidenceView {
+            kind,
+            text: line.text(),
+            count: line.count(),
+        }
+    }
+
+    /// The kind of the line.
+    pub fn kind(&self) -> Kind
+        ensures { result ≡ kind_of self.now }
+    {
+        self.kind
+    }
+
+    /// How many numbers the line has.
+    pub fn count(&self) -> usize
+        ensures { result ≡ length (numbers_of self.now) }
+    {
+        self.count
+    }
+
+    /// The numbers from left to right, in time in proportion to their bytes.
+    pub fn numbers(&self) -> LineNumbers<'a>
+        ensures { result ≡ numbers_of self.now }
+    {
+        LineNumbers::new(self.text)
+    }
+
+    /// The number at place i, counted from 0. Takes time in proportion to the bytes before it.
+    pub fn number(&self, i: usize) -> i128
+        requires { i < length (numbers_of self.now) }
+        ensures { result ≡ slice_index_or (numbers_of self.now) i (pos 0) }
+    {
+        self.numbers().nth(i).unwrap_or(0)
+    }
+
+    /// The same line, with numbers of its own.
+    pub fn to_line(&self, alloc: Global) -> Result<Line, AllocError>
+        ensures { IfOk result (λ line. line ≡ self.now) }
+    {
+        let len = self.kind.shape().leading;
+        let mut numbers = self.numbers();
+        let leading = take_leading(&mut numbers, len);
+        let values = listed(alloc, numbers, self.count - len)?;
+        Ok(Line::of(self.kind, leading, NumberList::new(values)))
     }
 }
 
-/// The line of this kind, which has a list.
-fn listed_line_of(alloc: Global, kind: Kind, line: &LineView) -> Result<Line, AllocError>
-    requires can { CanHave kind (length line.now.numbers) }
-    requires listed { IsListed kind }
-    ensures kind { IfOk result (λ made. kind_of made ≡ kind) }
-    ensures numbers { IfOk result (λ made. numbers_of made ≡ line.now.numbers) }
+/// So many of the numbers, and 0 for the others that can lead.
+fn take_leading(numbers: &mut LineNumbers, len: usize) -> [i128; MAX_LEADING]
+    requires few { len ≤ 5 }
+    requires within { len ≤ length numbers.old }
+    ensures leading { (i : ℕ) → slice_index_or result i (pos 0) ≡ slice_index_or (take len numbers.old) i (pos 0) }
+    ensures rest { numbers.new ≡ drop len numbers.old }
 {
-    let values = line.numbers_from(alloc, front_len(kind))?;
-    Ok(match kind {
-        Kind::K => Line::K { values },
-        Kind::P => Line::P {
-            h: line.number(0),
-            i: line.number(1),
-            values,
-        },
-        Kind::Theta => Line::Theta {
-            i: line.number(0),
-            values,
-        },
-        Kind::Prow => Line::Prow {
-            i: line.number(0),
-            values,
-        },
-        Kind::Qrow => Line::Qrow {
-            r: line.number(0),
-            values,
-        },
-        Kind::Krein => Line::Krein {
-            i: line.number(0),
-            j: line.number(1),
-            values,
-        },
-        Kind::Comb => Line::Comb {
-            m: line.number(0),
-            values,
-        },
-        _ => unreachable!(),
-    })
+    let mut leading = [0; MAX_LEADING];
+    'leading: for place in 0..len {
+        leading[place] = numbers.next().unwrap_or(0);
+    }
+    leading
 }
 
-/// How many numbers stand before the list of a line of this kind, 0 where it has no list.
-fn front_len(kind: Kind) -> usize
-    ensures { result ≡ front_len_of kind }
+/// The numbers, so many of which are left.
+fn listed(alloc: Global, numbers: LineNumbers, len: usize) -> Result<Vec<i128>, AllocError>
+    ensures { IfOk result (λ list. list.items ≡ numbers.entry) }
 {
-    match kind {
-        Kind::Theta | Kind::Prow | Kind::Qrow | Kind::Comb => 1,
-        Kind::P | Kind::Krein => 2,
-        _ => 0,
+    let mut list = Vec::with_capacity(alloc, len)?;
+    'numbers: for number in numbers {
+        list.push(number)?;
     }
-}
-
-/// The line of this kind, which has no list.
-fn fixed_line_of(kind: Kind, line: &LineView) -> Line
-    requires can { CanHave kind (length line.now.numbers) }
-    requires fixed { IsFixed kind }
-    ensures kind { kind_of result ≡ kind }
-    ensures numbers { numbers_of result ≡ line.now.numbers }
-{
-    match kind {
-        Kind::Frame => Line::Frame {
-            root: line.number(0),
-        },
-        Kind::Miss => Line::Miss { n: line.number(0) },
-        Kind::Mod => Line::Mod {
-            n: line.number(0),
-            g: line.number(1),
-        },
-        Kind::Eq => Line::Eq {
-            a: line.number(0),
-            x: line.number(1),
-            y: line.number(2),
-        },
-        Kind::Void => Line::Void {
-            r: line.number(0),
-            s: line.number(1),
-            t: line.number(2),
-        },
-        _ => long_line_of(kind, line),
-    }
-}
-
-/// The line of this kind, which has no list and four or five numbers.
-fn long_line_of(kind: Kind, line: &LineView) -> Line
-    requires can { CanHave kind (length line.now.numbers) }
-    requires long { IsLong kind }
-    ensures kind { kind_of result ≡ kind }
-    ensures numbers { numbers_of result ≡ line.now.numbers }
-{
-    match kind {
-        Kind::Keq => Line::Keq {
-            i: line.number(0),
-            j: line.number(1),
-            h: line.number(2),
-            part: line.number(3),
-        },
-        Kind::Split => Line::Split {
-            r: line.number(0),
-            s: line.number(1),
-            t: line.number(2),
-            v: line.number(3),
-        },
-        Kind::Low => Line::Low {
-            r: line.number(0),
-            s: line.number(1),
-            t: line.number(2),
-            v: line.number(3),
-            n: line.number(4),
-        },
-        Kind::High => Line::High {
-            r: line.number(0),
-            s: line.number(1),
-            t: line.number(2),
-            v: line.number(3),
-            n: line.number(4),
-        },
-        _ => unreachable!(),
-    }
+    Ok(list)
 }

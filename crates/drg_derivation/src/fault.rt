@@ -1,5 +1,8 @@
 //! Why bytes aren't read as a derivation.
 
+ghost use Rattle.std.specs.Prelude.{◌≡◌};
+ghost use Rattle.drg_derivation.specs.declared.fault.DerivationFault.TheVariants.{Memory};
+
 use std::alloc::AllocError;
 
 /// Why bytes aren't read as a derivation.
@@ -10,4 +13,12 @@ pub enum DerivationFault {
     BadText { line: u64 },
     /// There isn't enough memory.
     Memory,
+}
+
+impl From<AllocError> for DerivationFault {
+    ghost from_gives = { λ _ fault. fault ≡ Memory };
+
+    fn from(_error: AllocError) -> DerivationFault {
+        DerivationFault::Memory
+    }
 }

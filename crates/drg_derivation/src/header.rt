@@ -1,80 +1,104 @@
-//! The array and the claim of a derivation, from their lines.
+//! The version, the array and the claim of a derivation, from their lines.
 
-ghost use Rattle.std.specs.Prelude.{◌≡◌, ◌≤◌, ◌<◌, ◌+◌, ◌↔◌, ◌++◌, ◌∷◌, [], ℕ, ℤ, List, pos, map, take, drop, length, slice_index, slice_index_or, IfSome, IfNone, Some, None, All};
+ghost use Rattle.std.specs.Prelude.{◌≡◌, ◌≤◌, length};
 ghost use Rattle.std.specs.Option.{option_map};
-ghost use Rattle.drg_array.specs.Entries.{Entries, IsArray};
-ghost use Rattle.drg_array.specs.declared.claim.Claim.{Claim as TheClaim};
-ghost use Rattle.drg_derivation.specs.Header.{claim_made, claim_of_none, claim_of_one, claim_of_three, claim_of_two, HasDiameter, natural as natural_of, naturals as naturals_of};
-ghost use Rattle.drg_derivation.specs.Text.{IsClaim};
-ghost use Rattle.drg_derivation.specs.Written.{array_line, claim_line};
+ghost use Rattle.drg_array.specs.Claims.{indices_of};
+ghost use Rattle.drg_derivation.specs.Header.{array_from, array_read, claim_made, claim_of_one, claim_of_three, claim_of_two, claim_read, natural as natural_of, naturals as naturals_of, version_named as version_named_of, version_read};
+ghost use Rattle.drg_derivation.specs.Words.{IsClaim};
 
-use crate::{LineView, Word};
+use crate::word::Word;
+use crate::written::WrittenLine;
 use arrayvec::ArrayVec;
 use drg_array::{Array, Claim, MAX_DIAMETER, Test};
 use num_traits::cast;
 
-/// The greatest index of a claim.
-const MAX_INDEX: u16 = 255;
+/// The latest version of the text.
+const LATEST_VERSION: u8 = 1;
 
-/// The array of this line.
-pub fn array_of(line: &LineView) -> Option<Array>
-    ensures some { IfSome result (λ a. line.now ≡ array_line a) }
-    ensures array { IfSome result (λ a. IsArray a) }
-    ensures none { IfNone result ((a : Entries) → IsArray a → line.now ≡ array_line a → ⊥) }
-{
-    let d = diameter_of(line)?;
-    let b = naturals(line, 1, d)?;
-    let c = naturals(line, 1 + d, d)?;
-    Array::make(&b, &c)
-}
+/// The most numbers of an array's line.
+const MAX_NUMBERS: usize = 2 * MAX_DIAMETER + 1;
 
-/// The diameter that the line of an array names, where it has twice as many further numbers.
-fn diameter_of(line: &LineView) -> Option<usize>
-    ensures some { IfSome result (λ d. HasDiameter line.now d) }
-    ensures none { IfNone result ((a : Entries) → IsArray a → line.now ≡ array_line a → ⊥) }
-{
-    if line.begins_with() != Word::Array {
-        return None;
-    }
-    let d: usize = cast(line.first())?;
-    if d > MAX_DIAMETER || line.count() != 1 + 2 * d {
-        return None;
-    }
-    Some(d)
-}
+/// The most indices of a claim.
+const MAX_INDICES: usize = 3;
 
-/// The claim of this line.
-pub fn claim_of(line: &LineView) -> Option<Claim>
-    ensures some { IfSome result (λ claim. line.now ≡ claim_line claim) }
-    ensures claim { IfSome result (λ claim. IsClaim claim) }
-    ensures none { IfNone result ((claim : TheClaim) → IsClaim claim → line.now ≡ claim_line claim → ⊥) }
+/// The version of the text in this line.
+#[tactic(auto, unfolding(crate::specs::Header::version_read))]
+pub fn version_of(line: &WrittenLine) -> Option<u8>
+    ensures { result ≡ version_read line.now }
 {
-    let Word::Claim { test } = line.begins_with() else {
+    let Word::Drg = line.word() else {
         return None;
     };
-    if line.count() > 3 {
+    if line.count() != 1 {
         return None;
     }
-    let indices = naturals(line, 0, line.count())?;
-    if indices.iter().all(|i| *i <= MAX_INDEX) {
-        make_claim(test, &indices)
+    version_named(line.first())
+}
+
+/// The version of the text that has this number.
+fn version_named(number: i128) -> Option<u8>
+    ensures { result ≡ version_named_of number }
+{
+    let version = cast(number)?;
+    if version >= 1 && version <= LATEST_VERSION {
+        Some(version)
     } else {
         None
     }
 }
 
-/// So many numbers of the line from this place on, where each is at least 0 and below 2^16.
-fn naturals(line: &LineView, from: usize, len: usize) -> Option<ArrayVec<u16, MAX_DIAMETER>>
-    requires place { from ≤ 1 + MAX_DIAMETER }
-    requires short { len ≤ MAX_DIAMETER }
-    requires within { from + len ≤ length line.now.numbers }
-    ensures { option_map (λ numbers. numbers.items) result ≡ naturals_of 65535 (take len (drop from line.now.numbers)) }
+/// The array of this line.
+#[tactic(auto, unfolding(crate::specs::Header::array_read))]
+pub fn array_of(line: &WrittenLine) -> Option<Array>
+    ensures { result ≡ array_read line.now }
 {
-    let mut numbers = ArrayVec::new();
-    'numbers: for i in 0..len {
-        numbers.push(natural(line.number(from + i))?);
+    let Word::Array = line.word() else {
+        return None;
+    };
+    if line.count() > MAX_NUMBERS {
+        return None;
     }
-    Some(numbers)
+    array_with(&naturals(line)?)
+}
+
+/// The array of this diameter and these entries, all in one list.
+#[tactic(auto, unfolding(crate::specs::Header::array_from))]
+fn array_with(numbers: &[u16]) -> Option<Array>
+    ensures { result ≡ array_from numbers.now }
+{
+    let (d, entries) = numbers.split_first()?;
+    let d = usize::from(*d);
+    if entries.len() != 2 * d {
+        return None;
+    }
+    Array::make(&entries[..d], &entries[d..])
+}
+
+/// The claim of this line.
+#[tactic(auto, unfolding(crate::specs::Header::claim_read))]
+pub fn claim_of(line: &WrittenLine) -> Option<Claim>
+    ensures { result ≡ claim_read line.now }
+{
+    let Word::Claim = line.word() else {
+        return None;
+    };
+    let test = line.name()?;
+    if line.count() > MAX_INDICES {
+        return None;
+    }
+    make_claim(test, &bytes(line)?)
+}
+
+/// The numbers of the line, where each is at least 0 and below 2^16.
+fn naturals(line: &WrittenLine) -> Option<ArrayVec<u16, MAX_NUMBERS>>
+    requires { length line.now.numbers ≤ MAX_NUMBERS }
+    ensures { option_map (λ found. found.items) result ≡ naturals_of 65535 line.now.numbers }
+{
+    let mut found = ArrayVec::new();
+    'numbers: for number in line.numbers() {
+        found.push(natural(number)?);
+    }
+    Some(found)
 }
 
 /// The number, where it is at least 0 and below 2^16.
@@ -84,16 +108,34 @@ fn natural(number: i128) -> Option<u16>
     cast(number)
 }
 
+/// The numbers of the line, where each is at least 0 and below 2^8.
+fn bytes(line: &WrittenLine) -> Option<ArrayVec<u8, MAX_INDICES>>
+    requires { length line.now.numbers ≤ MAX_INDICES }
+    ensures { option_map (λ found. found.items) result ≡ naturals_of 255 line.now.numbers }
+{
+    let mut found = ArrayVec::new();
+    'numbers: for number in line.numbers() {
+        found.push(byte(number)?);
+    }
+    Some(found)
+}
+
+/// The number, where it is at least 0 and below 2^8.
+fn byte(number: i128) -> Option<u8>
+    ensures { result ≡ natural_of 255 number }
+{
+    cast(number)
+}
+
 /// The claim of this test with these indices.
-fn make_claim(test: Test, indices: &[u16]) -> Option<Claim>
-    requires { All (λ i. i ≤ 255) indices.now }
+fn make_claim(test: Test, indices: &[u8]) -> Option<Claim>
     ensures { result ≡ claim_made test indices.now }
 {
     match indices.len() {
         0 => (test == Test::First).then_some(Claim::First),
-        1 => claim_with_one(test, indices[0] as u8),
-        2 => claim_with_two(test, indices[0] as u8, indices[1] as u8),
-        3 => claim_with_three(test, indices[0] as u8, indices[1] as u8, indices[2] as u8),
+        1 => claim_with_one(test, indices[0]),
+        2 => claim_with_two(test, indices[0], indices[1]),
+        3 => claim_with_three(test, indices[0], indices[1], indices[2]),
         _ => None,
     }
 }
@@ -152,4 +194,38 @@ fn claim_with_three(test: Test, first: u8, second: u8, third: u8) -> Option<Clai
         }),
         _ => None,
     }
+}
+
+/// The indices of a claim, in the order in which they are written.
+pub fn claim_indices(claim: &Claim) -> ArrayVec<u8, MAX_INDICES>
+    ensures indices { result.items ≡ indices_of claim.now }
+    ensures bytes { IsClaim claim.now }
+{
+    match claim {
+        Claim::First => few(&[]),
+        Claim::Degree { i }
+        | Claim::Order { i }
+        | Claim::Size { i }
+        | Claim::Handshake { i }
+        | Claim::Triangles { i }
+        | Claim::Mult { i } => few(&[*i]),
+        Claim::Cross { i, j } | Claim::Induced { i, j } | Claim::Absolute { i, j } => {
+            few(&[*i, *j])
+        }
+        Claim::Intersect { h, i, j } => few(&[*h, *i, *j]),
+        Claim::Krein { i, j, h } => few(&[*i, *j, *h]),
+        Claim::Triple { u, v, w } | Claim::Ktriple { u, v, w } => few(&[*u, *v, *w]),
+    }
+}
+
+/// At most three indices.
+fn few(indices: &[u8]) -> ArrayVec<u8, MAX_INDICES>
+    requires { length indices.now ≤ 3 }
+    ensures { result.items ≡ indices.now }
+{
+    let mut all = ArrayVec::new();
+    'indices: for index in indices {
+        all.push(*index);
+    }
+    all
 }

@@ -1,11 +1,12 @@
 //! Whole numbers at the front of bytes.
 
-ghost use Rattle.std.specs.Prelude.{◌≡◌, ◌<◌, ◌≤◌, pos, option_copied, slice_index_or, length, IfOk, IfSome, drop, Some};
+ghost use Rattle.std.specs.Prelude.{◌≡◌, ◌≤◌, pos, option_copied, length, IfSome};
+ghost use Rattle.std.specs.Iterator.{item_count, YieldsFirst};
 ghost use Rattle.std.specs.Option.{option_map};
 ghost use Rattle.drg_derivation.specs.Integers.{greatest};
-ghost use Rattle.drg_derivation.specs.Reading.{after_byte as after_byte_of, integer_at as integer_at_of, integers_in, integers_of, negative, positive_at, seen, spaced_at};
+ghost use Rattle.drg_derivation.specs.Reading.{after_byte as after_byte_of, AreRead, integer_at as integer_at_of, integers_in, integers_of, negative, positive_at, seen, spaced_at};
 
-use std::alloc::{AllocError, Global};
+use std::marker::Model;
 
 /// The greatest magnitude of a number, without its last digit.
 const FRONT: u128 = 17014118346046923173168730371588410572;
@@ -101,45 +102,43 @@ pub fn count_integers(text: &[u8]) -> Option<usize>
     Some(count)
 }
 
-/// What follows so many numbers.
-fn after_integers(text: &[u8], count: usize) -> &[u8]
-    requires numbers { integers_of text.now ≡ Some (integers_in text.now) }
-    requires within { count ≤ length (integers_in text.now) }
-    ensures { integers_of result.now ≡ Some (drop count (integers_in text.now)) }
-{
-    let mut rest = text;
-    'numbers: for _ in 0..count {
-        match read_spaced(rest) {
-            Some((_, more)) => rest = more,
-            None => return rest,
-        }
-    }
-    rest
+/// The whole numbers of a line, from left to right over lent bytes.
+#[derive(Debug, Drop)]
+pub struct LineNumbers<'a> {
+    text: &'a [u8],
 }
 
-/// The number at this place, counted from 0.
-pub fn integer_at(text: &[u8], place: usize) -> i128
-    requires numbers { integers_of text.now ≡ Some (integers_in text.now) }
-    requires within { place < length (integers_in text.now) }
-    ensures { result ≡ slice_index_or (integers_in text.now) place (pos 0) }
-{
-    match read_spaced(after_integers(text, place)) {
-        Some((number, _)) => number,
-        None => 0,
+impl<'a> Model for LineNumbers<'a> {
+    ghost use Rattle.std.specs.Prelude.{List, ℤ};
+    ghost use Rattle.drg_derivation.specs.Reading.{AreRead, integers_in};
+
+    ghost Value = { List ℤ };
+
+    ghost view = { λ n. integers_in n.text.now };
+
+    ghost invariant = { λ n. AreRead n.text.now };
+}
+
+impl<'a> LineNumbers<'a> {
+    /// The numbers of a text that has nothing else.
+    pub(crate) fn new(text: &'a [u8]) -> LineNumbers<'a>
+        requires { AreRead text.now }
+        ensures { result ≡ integers_in text.now }
+    {
+        LineNumbers { text }
     }
 }
 
-/// The numbers from this place on.
-pub fn integers_from(alloc: Global, text: &[u8], place: usize) -> Result<Vec<i128>, AllocError>
-    requires numbers { integers_of text.now ≡ Some (integers_in text.now) }
-    requires within { place ≤ length (integers_in text.now) }
-    ensures { IfOk result (λ numbers. numbers.items ≡ drop place (integers_in text.now)) }
-{
-    let mut numbers = Vec::new(alloc);
-    let mut rest = after_integers(text, place);
-    'numbers: while let Some((number, more)) = read_spaced(rest) {
-        numbers.push(number)?;
-        rest = more;
+impl Iterator for LineNumbers<'_> {
+    type Item = i128;
+
+    ghost next_gives = { YieldsFirst (λ numbers. numbers) };
+
+    ghost remaining = { item_count (λ numbers. numbers) };
+
+    fn next(&mut self) -> Option<i128> {
+        let (number, rest) = read_spaced(self.text)?;
+        self.text = rest;
+        Some(number)
     }
-    Ok(numbers)
 }

@@ -12,6 +12,7 @@
 //! before it isn't looked at here.
 #![tactic(auto)]
 
+mod context;
 mod derivation;
 mod evidence;
 mod fault;
@@ -20,7 +21,7 @@ mod integers;
 mod kind;
 mod laws;
 mod line;
-mod numbers;
+mod number_list;
 mod place;
 mod reader;
 mod reading;
@@ -29,18 +30,21 @@ mod view;
 mod word;
 mod word_at;
 mod write;
+mod written;
 
+pub use context::Context;
 pub use derivation::Derivation;
+pub use evidence::EvidenceView;
 pub use fault::DerivationFault;
-pub use kind::Kind;
+pub use integers::LineNumbers;
+pub use kind::{Kind, Shape, Tail};
 pub use laws::{line_reader_law, no_prefix_law, one_derivation_law, one_text_law, refusal_law};
 pub use line::Line;
-pub use numbers::Numbers;
-pub use place::Place;
-pub use reader::{LineReader, line_at};
+pub use number_list::NumberList;
+pub use place::{Place, line_at};
+pub use reader::LineReader;
 pub use reading::read;
 pub use view::LineView;
-pub use word::Word;
 
 #[cfg(test)]
 mod tests;

@@ -1,11 +1,12 @@
 //! The evidence lines of a derivation.
 
-ghost use Rattle.std.specs.Prelude.{◌≡◌, ◌≤◌, ◌↔◌, IsTrue, ℤ, List, length};
+ghost use Rattle.std.specs.Prelude.{◌≡◌, ◌≤◌, ◌↔◌, ◌++◌, IsTrue, length};
 ghost use Rattle.std.specs.List.{AllByRecursion};
 ghost use Rattle.drg_derivation.specs.Integers.{IsShort};
-ghost use Rattle.drg_derivation.specs.Lines.{first_of, front_of, kind_of, list_of, numbers_of};
+ghost use Rattle.drg_derivation.specs.Lines.{kind_of, line_of, parts_of};
+ghost use Rattle.drg_derivation.specs.Shapes.{first_of};
 
-use crate::{Kind, Numbers};
+use crate::{Kind, NumberList};
 use arrayvec::ArrayVec;
 
 /// An evidence line, with its numbers in their order.
@@ -13,13 +14,13 @@ use arrayvec::ArrayVec;
 pub enum Line {
     /// `k v_0 .. v_m`: the sizes from `k_0` on.
     K {
-        values: Numbers,
+        values: NumberList,
     },
     /// `p h i v_0 .. v_d`: the intersection numbers `p^h_ij` for each j.
     P {
         h: i128,
         i: i128,
-        values: Numbers,
+        values: NumberList,
     },
     /// `frame root`: the square root that the field numbers after it are made with, 0 for none.
     Frame {
@@ -28,23 +29,23 @@ pub enum Line {
     /// `theta i x`: an eigenvalue.
     Theta {
         i: i128,
-        values: Numbers,
+        values: NumberList,
     },
     /// `prow i x_0 .. x_d`: a row of the eigenmatrix P.
     Prow {
         i: i128,
-        values: Numbers,
+        values: NumberList,
     },
     /// `qrow r x_0 .. x_d`: a row of the dual eigenmatrix Q.
     Qrow {
         r: i128,
-        values: Numbers,
+        values: NumberList,
     },
     /// `krein i j x_0 .. x_d`: the Krein parameters `q^h_ij` for each h.
     Krein {
         i: i128,
         j: i128,
-        values: Numbers,
+        values: NumberList,
     },
     /// `eq a x y`: a counting equation of the triple type.
     Eq {
@@ -62,7 +63,7 @@ pub enum Line {
     /// `comb m n_1 f_1 .. n_m f_m`: a sum of m multiples of equations made before.
     Comb {
         m: i128,
-        values: Numbers,
+        values: NumberList,
     },
     /// `low r s t v n`: by equation n the unknown is at least v.
     Low {
@@ -104,109 +105,118 @@ pub enum Line {
     },
 }
 
-/// The most numbers that stand before a line's list.
-const MAX_FRONT: usize = 5;
+/// The most numbers that lead in a line.
+pub const MAX_LEADING: usize = 5;
+
+/// A line's kind and its numbers, the leading ones and those that follow.
+#[derive(Debug, Drop)]
+pub struct Parts<'a> {
+    pub kind: Kind,
+    pub leading: ArrayVec<i128, MAX_LEADING>,
+    pub tail: &'a [i128],
+}
 
 impl Line {
+    /// The line of this kind with these numbers, of which it takes those that its kind has.
+    pub(crate) fn of(kind: Kind, leading: [i128; MAX_LEADING], values: NumberList) -> Line
+        ensures { result ≡ line_of kind leading values }
+    {
+        match (kind, leading) {
+            (Kind::K, _) => Line::K { values },
+            (Kind::P, [h, i, ..]) => Line::P { h, i, values },
+            (Kind::Frame, [root, ..]) => Line::Frame { root },
+            (Kind::Theta, [i, ..]) => Line::Theta { i, values },
+            (Kind::Prow, [i, ..]) => Line::Prow { i, values },
+            (Kind::Qrow, [r, ..]) => Line::Qrow { r, values },
+            (Kind::Krein, [i, j, ..]) => Line::Krein { i, j, values },
+            (Kind::Eq, [a, x, y, ..]) => Line::Eq { a, x, y },
+            (Kind::Keq, [i, j, h, part, _]) => Line::Keq { i, j, h, part },
+            (Kind::Comb, [m, ..]) => Line::Comb { m, values },
+            (Kind::Low, [r, s, t, v, n]) => Line::Low { r, s, t, v, n },
+            (Kind::High, [r, s, t, v, n]) => Line::High { r, s, t, v, n },
+            (Kind::Split, [r, s, t, v, _]) => Line::Split { r, s, t, v },
+            (Kind::Miss, [n, ..]) => Line::Miss { n },
+            (Kind::Mod, [n, g, ..]) => Line::Mod { n, g },
+            (Kind::Void, [r, s, t, ..]) => Line::Void { r, s, t },
+        }
+    }
+
+    /// The kind and the numbers.
+    pub(crate) fn parts(&self) -> Parts<'_>
+        ensures kind { result.kind ≡ kind_of self.now }
+        ensures leading { result.leading.items ≡ (parts_of self.now).leading }
+        ensures tail { result.tail.now ≡ (parts_of self.now).tail }
+    {
+        match self {
+            Line::K { values } => numbered(Kind::K, &[], values.as_slice()),
+            Line::P { h, i, values } => numbered(Kind::P, &[*h, *i], values.as_slice()),
+            Line::Frame { root } => numbered(Kind::Frame, &[*root], &[]),
+            Line::Theta { i, values } => numbered(Kind::Theta, &[*i], values.as_slice()),
+            Line::Prow { i, values } => numbered(Kind::Prow, &[*i], values.as_slice()),
+            Line::Qrow { r, values } => numbered(Kind::Qrow, &[*r], values.as_slice()),
+            Line::Krein { i, j, values } => numbered(Kind::Krein, &[*i, *j], values.as_slice()),
+            Line::Eq { a, x, y } => numbered(Kind::Eq, &[*a, *x, *y], &[]),
+            Line::Keq { i, j, h, part } => numbered(Kind::Keq, &[*i, *j, *h, *part], &[]),
+            Line::Comb { m, values } => numbered(Kind::Comb, &[*m], values.as_slice()),
+            Line::Low { r, s, t, v, n } => numbered(Kind::Low, &[*r, *s, *t, *v, *n], &[]),
+            Line::High { r, s, t, v, n } => numbered(Kind::High, &[*r, *s, *t, *v, *n], &[]),
+            Line::Split { r, s, t, v } => numbered(Kind::Split, &[*r, *s, *t, *v], &[]),
+            Line::Miss { n } => numbered(Kind::Miss, &[*n], &[]),
+            Line::Mod { n, g } => numbered(Kind::Mod, &[*n, *g], &[]),
+            Line::Void { r, s, t } => numbered(Kind::Void, &[*r, *s, *t], &[]),
+        }
+    }
+
     /// The kind of the line.
     pub fn kind(&self) -> Kind
         ensures { result ≡ kind_of self.now }
     {
-        match self {
-            Line::K { .. } => Kind::K,
-            Line::P { .. } => Kind::P,
-            Line::Frame { .. } => Kind::Frame,
-            Line::Theta { .. } => Kind::Theta,
-            Line::Prow { .. } => Kind::Prow,
-            Line::Qrow { .. } => Kind::Qrow,
-            Line::Krein { .. } => Kind::Krein,
-            Line::Eq { .. } => Kind::Eq,
-            Line::Keq { .. } => Kind::Keq,
-            Line::Comb { .. } => Kind::Comb,
-            Line::Low { .. } => Kind::Low,
-            Line::High { .. } => Kind::High,
-            Line::Split { .. } => Kind::Split,
-            Line::Miss { .. } => Kind::Miss,
-            Line::Mod { .. } => Kind::Mod,
-            Line::Void { .. } => Kind::Void,
-        }
+        self.parts().kind
     }
+}
 
-    /// The numbers before the list.
-    pub(crate) fn front(&self) -> ArrayVec<i128, MAX_FRONT>
-        ensures { result.items ≡ front_of self.now }
-    {
-        match self {
-            Line::K { .. } => few(&[]),
-            Line::P { h, i, .. } => few(&[*h, *i]),
-            Line::Frame { root } => few(&[*root]),
-            Line::Theta { i, .. } | Line::Prow { i, .. } => few(&[*i]),
-            Line::Qrow { r, .. } => few(&[*r]),
-            Line::Krein { i, j, .. } => few(&[*i, *j]),
-            Line::Eq { a, x, y } => few(&[*a, *x, *y]),
-            Line::Keq { i, j, h, part } => few(&[*i, *j, *h, *part]),
-            Line::Comb { m, .. } => few(&[*m]),
-            Line::Low { r, s, t, v, n } | Line::High { r, s, t, v, n } => few(&[
-                *r, *s, *t, *v, *n,
-            ]),
-            Line::Split { r, s, t, v } => few(&[*r, *s, *t, *v]),
-            Line::Miss { n } => few(&[*n]),
-            Line::Mod { n, g } => few(&[*n, *g]),
-            Line::Void { r, s, t } => few(&[*r, *s, *t]),
-        }
-    }
-
-    /// The numbers of the list, none where the line has no list.
-    pub(crate) fn list(&self) -> &[i128]
-        ensures { result.now ≡ list_of self.now }
-    {
-        match self {
-            Line::K { values }
-            | Line::P { values, .. }
-            | Line::Theta { values, .. }
-            | Line::Prow { values, .. }
-            | Line::Qrow { values, .. }
-            | Line::Krein { values, .. }
-            | Line::Comb { values, .. } => values.as_slice(),
-            _ => &[],
-        }
-    }
-
+impl Parts<'_> {
     /// How many numbers the line has.
     pub fn count(&self) -> usize
-        ensures { result ≡ length (numbers_of self.now) }
+        ensures { result ≡ length (self.now.leading.items ++ self.now.tail.now) }
     {
-        self.front().len() + self.list().len()
+        self.leading.len() + self.tail.len()
     }
 
     /// The first number, or 0 where there is none.
-    pub(crate) fn first(&self) -> i128
-        ensures { result ≡ first_of (numbers_of self.now) }
+    pub fn first(&self) -> i128
+        ensures { result ≡ first_of (self.now.leading.items ++ self.now.tail.now) }
     {
-        match self.front().first() {
+        match self.leading.first() {
             Some(first) => *first,
-            None => self.list().first().copied().unwrap_or(0),
+            None => self.tail.first().copied().unwrap_or(0),
         }
     }
 
     /// Whether each number can be written: none is below -(2^127-1).
-    pub(crate) fn is_short(&self) -> bool
-        ensures { IsTrue result ↔ AllByRecursion IsShort (numbers_of self.now) }
+    pub fn is_short(&self) -> bool
+        ensures { IsTrue result ↔ AllByRecursion IsShort (self.now.leading.items ++ self.now.tail.now) }
     {
-        are_short(&self.front()) && are_short(self.list())
+        are_short(&self.leading) && are_short(self.tail)
     }
 }
 
-/// At most five numbers.
-fn few(numbers: &[i128]) -> ArrayVec<i128, MAX_FRONT>
-    requires { length numbers.now ≤ 5 }
-    ensures { result.items ≡ numbers.now }
+/// The parts of a line, which has at most five leading numbers.
+fn numbered<'a>(kind: Kind, leading: &[i128], tail: &'a [i128]) -> Parts<'a>
+    requires { length leading.now ≤ 5 }
+    ensures kind { result.kind ≡ kind }
+    ensures leading { result.leading.items ≡ leading.now }
+    ensures tail { result.tail.now ≡ tail.now }
 {
-    let mut all = ArrayVec::new();
-    'numbers: for number in numbers {
-        all.push(*number);
+    let mut few = ArrayVec::new();
+    'leading: for number in leading {
+        few.push(*number);
     }
-    all
+    Parts {
+        kind,
+        leading: few,
+        tail,
+    }
 }
 
 /// Whether each number can be written.

@@ -1,11 +1,10 @@
 //! A derivation, line by line, over lent bytes.
 
-ghost use Rattle.std.specs.Prelude.{◌≡◌, ◌≢◌, suc, IfOk, IfErr, OnErr, IfSome, IfNone, Ok, None};
-ghost use Rattle.drg_derivation.specs.Places.{IsBad, IsLineAt, next_place, start, Takes};
-ghost use Rattle.drg_derivation.specs.Written.{Written};
+ghost use Rattle.std.specs.Prelude.{◌≡◌, ◌≢◌, suc, IfOk, IfErr, OnErr, IfSome, IfNone};
+ghost use Rattle.drg_derivation.specs.Places.{HandsOut, IsBad, start};
 
 use crate::LineView;
-use crate::place::{Place, place_after};
+use crate::place::{Place, line_at};
 use crate::split::split_line;
 use std::marker::Model;
 
@@ -43,7 +42,7 @@ impl<'a> LineReader<'a> {
     /// The next line, or None past the `end` line. Where the bytes don't go on with a line that
     /// stands at its place, the number of that line, counted from 1, and so again at each further call.
     pub fn next(&mut self) -> Result<Option<LineView<'a>>, u64>
-        ensures line { IfOk result (λ found. IfSome found (λ line. Takes self.old line self.new)) }
+        ensures line { IfOk result (λ found. IfSome found (λ line. HandsOut self.old line self.new)) }
         ensures over { IfOk result (λ found. IfNone found (self.old.place ≡ Place.After)) }
         ensures still { IfOk result (λ found. IfNone found (self.new ≡ self.old)) }
         ensures refused { IfErr result (λ number. number ≡ suc self.old.line) }
@@ -73,15 +72,4 @@ impl<'a> LineReader<'a> {
     {
         self.rest
     }
-}
-
-/// The line of this text at this place, and the place after it.
-pub fn line_at(place: Place, text: &[u8]) -> Option<(LineView, Place)>
-    ensures line { IfSome result (λ x. IsLineAt place text.now x.0) }
-    ensures next { IfSome result (λ x. x.1 ≡ next_place place x.0) }
-    ensures none { IfNone result ((line : Written) → IsLineAt place text.now line → ⊥) }
-{
-    let line = LineView::read(text)?;
-    let next = place_after(place, &line)?;
-    Some((line, next))
 }

@@ -1,18 +1,15 @@
 //! A derivation, read from its text.
 
-ghost use Rattle.std.specs.Prelude.{◌≡◌, ◌≢◌, ◌++◌, ◌∷◌, [], IfOk, IfErr, OnOk, length};
-ghost use Rattle.drg_derivation.specs.Lines.{CanHave};
-ghost use Rattle.drg_derivation.specs.declared.word.Word.{Word};
+ghost use Rattle.std.specs.Prelude.{◌≡◌, ◌≢◌, ◌++◌, ◌∷◌, [], IfOk, IfErr, OnOk};
 ghost use Rattle.drg_array.specs.Entries.{IsArray};
 ghost use Rattle.drg_derivation.specs.Faults.{IsCause, IsStop};
-ghost use Rattle.drg_derivation.specs.Places.{Hands, IsAmong, IsAtClaim, Takes};
+ghost use Rattle.drg_derivation.specs.Places.{HandsOut, HandsOutAll, IsAmong, IsAtArray, IsAtClaim};
+ghost use Rattle.drg_derivation.specs.Text.{Begins, evidence_views};
 ghost use Rattle.drg_derivation.specs.declared.place.Place.{Place};
-ghost use Rattle.drg_derivation.specs.Text.{Begins, IsClaim};
-ghost use Rattle.drg_derivation.specs.Written.{array_line, claim_line, end_line, evidence_lines};
+ghost use Rattle.drg_derivation.specs.declared.view.LineView.TheVariants.{Array as ArrayView, Claim as ClaimView, End as EndView};
 
-use crate::evidence::line_of;
-use crate::header::{array_of, claim_of};
-use crate::{Derivation, DerivationFault, Kind, Line, LineReader, LineView, Word};
+use crate::split::split_line;
+use crate::{Derivation, DerivationFault, EvidenceView, Line, LineReader, LineView};
 use drg_array::{Array, Claim};
 use std::alloc::{AllocError, Global};
 
@@ -39,7 +36,7 @@ pub fn read(alloc: Global, bytes: &[u8]) -> Result<(Derivation, usize), Derivati
 /// The next line.
 fn next_line<'a>(reader: &mut LineReader<'a>) -> Result<LineView<'a>, DerivationFault>
     requires { reader.old.place ≢ Place.After }
-    ensures ok { IfOk result (λ line. Takes reader.old line reader.new) }
+    ensures ok { IfOk result (λ line. HandsOut reader.old line reader.new) }
     ensures refused { IfErr result (IsStop reader.old) }
 {
     match reader.next() {
@@ -51,65 +48,65 @@ fn next_line<'a>(reader: &mut LineReader<'a>) -> Result<LineView<'a>, Derivation
 
 /// The array of the next line.
 fn read_array(reader: &mut LineReader) -> Result<Array, DerivationFault>
-    requires { reader.old.place ≡ Place.Array }
-    ensures ok { IfOk result (λ a. Takes reader.old (array_line a) reader.new) }
-    ensures array { IfOk result (λ a. IsArray a) }
+    requires { IsAtArray reader.old.place }
+    ensures ok { IfOk result (λ array. HandsOut reader.old (ArrayView array) reader.new) }
     ensures refused { IfErr result (IsStop reader.old) }
 {
-    let line = next_line(reader)?;
-    match array_of(&line) {
-        Some(array) => Ok(array),
-        None => unreachable!(),
+    match next_line(reader)? {
+        LineView::Array { array } => Ok(array),
+        _ => unreachable!(),
     }
 }
 
 /// The claim of the next line.
 fn read_claim(reader: &mut LineReader) -> Result<Claim, DerivationFault>
     requires { IsAtClaim reader.old.place }
-    ensures ok { IfOk result (λ claim. Takes reader.old (claim_line claim) reader.new) }
-    ensures claim { IfOk result (λ claim. IsClaim claim) }
+    ensures ok { IfOk result (λ claim. HandsOut reader.old (ClaimView claim) reader.new) }
     ensures refused { IfErr result (IsStop reader.old) }
 {
-    let line = next_line(reader)?;
-    match claim_of(&line) {
-        Some(claim) => Ok(claim),
-        None => unreachable!(),
+    match next_line(reader)? {
+        LineView::Claim { claim } => Ok(claim),
+        _ => unreachable!(),
     }
 }
 
 /// The evidence lines up to `end`.
 fn read_lines(alloc: Global, reader: &mut LineReader) -> Result<Vec<Line>, DerivationFault>
     requires { IsAmong reader.old.place }
-    ensures ok { IfOk result (λ lines. Hands reader.old (evidence_lines lines.items ++ end_line ∷ []) reader.new) }
+    ensures ok { IfOk result (λ lines. HandsOutAll reader.old (evidence_views lines.items ++ EndView ∷ []) reader.new) }
     ensures refused { IfErr result (IsStop reader.old) }
 {
-    let mut lines = Vec::new(alloc);
+    let mut lines = Vec::with_capacity(alloc, lines_before_end(reader.rest()))?;
     'lines: loop {
-        let line = next_line(reader)?;
-        match line.begins_with() {
-            Word::Evidence { kind } => {
-                match add_line(alloc, kind, &line, &mut lines) {
-                    Ok(()) => {}
-                    Err(_) => return Err(DerivationFault::Memory),
-                }
-            }
-            Word::End => return Ok(lines),
+        match next_line(reader)? {
+            LineView::Evidence { line } => push_line(alloc, &line, &mut lines)?,
+            LineView::End => return Ok(lines),
             _ => unreachable!(),
         }
     }
 }
 
-/// Appends the evidence line of this kind with the numbers of the line in the bytes.
-fn add_line(
-    alloc: Global,
-    kind: Kind,
-    line: &LineView,
-    lines: &mut Vec<Line>,
-) -> Result<(), AllocError>
-    requires { CanHave kind (length line.now.numbers) }
-    ensures { OnOk result (evidence_lines lines.new.items ≡ evidence_lines lines.old.items ++ record { word = Word.Evidence kind; numbers = line.now.numbers } ∷ []) }
+/// Appends the line.
+fn push_line(alloc: Global, line: &EvidenceView, lines: &mut Vec<Line>) -> Result<(), AllocError>
+    ensures { OnOk result (lines.new.items ≡ lines.old.items ++ line.now ∷ []) }
 {
-    let made = line_of(alloc, kind, line)?;
-    lines.push(made)?;
+    lines.push(line.to_line(alloc)?)?;
     Ok(())
+}
+
+/// The fewest bytes of an evidence line.
+const SHORTEST: usize = 3;
+
+/// How many evidence lines there are at most before `end`, 0 where no line is `end`.
+fn lines_before_end(bytes: &[u8]) -> usize {
+    let mut rest = bytes;
+    let mut count: usize = 0;
+    'lines: while let Some((line, more)) = split_line(rest) {
+        if line == "end".as_bytes() || line.len() < SHORTEST {
+            return count;
+        }
+        count += 1;
+        rest = more;
+    }
+    0
 }

@@ -1,4 +1,7 @@
-use crate::{Derivation, DerivationFault, Line, LineReader, Numbers, read};
+use crate::{
+    Context, Derivation, DerivationFault, Kind, Line, LineReader, LineView, NumberList, Place,
+    line_at, read,
+};
 use drg_array::{Array, Claim};
 use std::alloc::Global;
 use std::process::Abort;
@@ -205,36 +208,6 @@ fn numbers_at_the_bound(rt: HostRuntime) {
 }
 
 #[test]
-fn lines_one_by_one(rt: HostRuntime) -> Result<(), Fail> {
-    let mut reader = LineReader::new(TRIPLE.as_bytes());
-    let words = [
-        "drg",
-        "array",
-        "claim triple",
-        "p",
-        "p",
-        "eq",
-        "miss",
-        "end",
-    ];
-    for word in words {
-        match reader.next() {
-            Ok(Some(line)) => {
-                assert_eq!(rt; line.word(), word);
-                if word == "eq" {
-                    assert_eq!(rt; line.count(), 3);
-                    assert_eq!(rt; line.number(2), 2);
-                }
-            }
-            _ => assert!(rt; false, "{word}"),
-        }
-    }
-    assert!(rt; matches!(reader.next(), Ok(None)));
-    assert!(rt; matches!(reader.next(), Ok(None)));
-    Ok(())
-}
-
-#[test]
 fn refuses_again(rt: HostRuntime) {
     let mut reader = LineReader::new("drg 1\narray 2 6 4 1\n".as_bytes());
     assert!(rt; matches!(reader.next(), Ok(Some(_))));
@@ -262,9 +235,141 @@ fn with_line(alloc: Global, line: Line) -> Result<Option<Derivation>, Fail> {
 fn derivations_that_have_a_text(rt: HostRuntime) -> Result<(), Fail> {
     assert!(rt; with_line(rt.alloc(), Line::Miss { n: -5 })?.is_some());
     assert!(rt; with_line(rt.alloc(), Line::Miss { n: i128::MIN })?.is_none());
-    let values = Numbers::new(vec![in rt.alloc(); 0, 1]?);
+    let values = NumberList::new(vec![in rt.alloc(); 0, 1]?);
     assert!(rt; with_line(rt.alloc(), Line::Comb { m: 1, values })?.is_some());
-    let values = Numbers::new(vec![in rt.alloc(); 0, 1, 1]?);
+    let values = NumberList::new(vec![in rt.alloc(); 0, 1, 1]?);
     assert!(rt; with_line(rt.alloc(), Line::Comb { m: 1, values })?.is_none());
+    Ok(())
+}
+
+#[test]
+fn a_derivation_of_twenty_thousand_lines(rt: HostRuntime) -> Result<(), Fail> {
+    let alloc = rt.alloc();
+    let array = Array::make(&[3], &[1]).ok_or("no array")?;
+    let mut lines = Vec::new(alloc);
+    for v in 0..20_000 {
+        lines.push(Line::Low {
+            r: 1,
+            s: 1,
+            t: 1,
+            v,
+            n: 0,
+        })?;
+    }
+    let derivation = Derivation::make(array, Claim::First, lines).ok_or("no text")?;
+    let mut text = Vec::new(alloc);
+    derivation.write_text(&mut text)?;
+    // `low 1 1 1 v 0` with 88,890 digits of v in all, and 34 bytes in the other four lines.
+    assert_eq!(rt; text.len(), 20_000 * 13 + 88_890 + 34);
+    let (again, used) = read(alloc, &text)?;
+    assert_eq!(rt; used, text.len());
+    assert_eq!(rt; again.lines.len(), 20_000);
+    let mut copy = Vec::new(alloc);
+    again.write_text(&mut copy)?;
+    assert!(rt; copy.as_slice() == text.as_slice());
+    let mut reader = LineReader::new(&text);
+    for place in 0..20_004 {
+        match reader.next() {
+            Ok(Some(LineView::Evidence { line })) if line.kind() == Kind::Low => {
+                assert_eq!(rt; line.number(3), place - 3);
+            }
+            Ok(Some(_)) => assert!(rt; place < 3 || place == 20_003),
+            _ => assert!(rt; false, "a line is refused"),
+        }
+    }
+    assert!(rt; matches!(reader.next(), Ok(None)));
+    Ok(())
+}
+
+#[test]
+fn a_line_of_forty_thousand_numbers(rt: HostRuntime) -> Result<(), Fail> {
+    let alloc = rt.alloc();
+    let mut text = b"drg 1\narray 1 3 1\nclaim first\ncomb 20000".to_vec(alloc)?;
+    for _ in 0..20_000 {
+        text.extend_from_slice(b" 0 1")?;
+    }
+    text.extend_from_slice(b"\nend\n")?;
+    let (derivation, used) = read(alloc, &text)?;
+    assert_eq!(rt; used, text.len());
+    match derivation.lines.as_slice() {
+        [Line::Comb { m, values }] => {
+            assert_eq!(rt; *m, 20_000);
+            assert_eq!(rt; values.len(), 40_000);
+            assert_eq!(rt;
+                values.as_slice().iter().filter(|v| **v == 1).count(),
+                20_000
+            );
+        }
+        _ => assert!(rt; false, "no comb line"),
+    }
+    let mut copy = Vec::new(alloc);
+    derivation.write_text(&mut copy)?;
+    assert!(rt; copy.as_slice() == text.as_slice());
+    Ok(())
+}
+
+#[test]
+fn words_and_numbers_of_lines(rt: HostRuntime) {
+    let cases: [(&str, &[i128]); 15] = [
+        ("drg", &[1]),
+        ("array", &[2, 4, 3, 1, 1]),
+        ("claim mult", &[1]),
+        ("k", &[1, 4, 12]),
+        ("frame", &[13]),
+        ("theta", &[0, 4, 1, 0, 1]),
+        ("theta", &[1, -1, 2, 1, 2]),
+        ("theta", &[2, -1, 2, -1, 2]),
+        ("prow", &[0, 1, 1, 0, 1, 4, 1, 0, 1, 12, 1, 0, 1]),
+        ("prow", &[1, 1, 1, 0, 1, -1, 2, 1, 2, -1, 2, -1, 2]),
+        ("prow", &[2, 1, 1, 0, 1, -1, 2, -1, 2, -1, 2, 1, 2]),
+        ("qrow", &[0, 1, 1, 0, 1, 8, 1, 4, 13, 8, 1, -4, 13]),
+        ("qrow", &[1, 1, 1, 0, 1, -1, 2, 25, 26, -1, 2, -25, 26]),
+        ("qrow", &[2, 1, 1, 0, 1, -1, 2, -9, 26, -1, 2, 9, 26]),
+        ("end", &[]),
+    ];
+    let mut reader = LineReader::new(MULT.as_bytes());
+    for (word, numbers) in cases {
+        match reader.next() {
+            Ok(Some(line)) => {
+                assert_eq!(rt; line.word(), word);
+                assert_eq!(rt; line.count(), numbers.len());
+                for i in 0..line.count() {
+                    assert_eq!(rt; Some(line.number(i)), numbers.get(i).copied());
+                }
+            }
+            _ => assert!(rt; false, "{word}"),
+        }
+    }
+}
+
+#[test]
+fn an_evidence_line_from_left_to_right(rt: HostRuntime) -> Result<(), Fail> {
+    let place = Place::Evidence {
+        context: Context {
+            version: 1,
+            d: 2,
+            width: 4,
+        },
+    };
+    match line_at(place, b"theta 1 -1 2 1 2") {
+        Some((LineView::Evidence { line }, next)) => {
+            assert_eq!(rt; next, place);
+            assert_eq!(rt; line.kind(), Kind::Theta);
+            let mut numbers = line.numbers();
+            for number in [1, -1, 2, 1, 2] {
+                assert_eq!(rt; numbers.next(), Some(number));
+            }
+            assert!(rt; numbers.next().is_none());
+            match line.to_line(rt.alloc())? {
+                Line::Theta { i, values } => {
+                    assert_eq!(rt; i, 1);
+                    assert_eq!(rt; values.as_slice(), [-1, 2, 1, 2].as_slice());
+                }
+                _ => assert!(rt; false, "another kind"),
+            }
+        }
+        _ => assert!(rt; false, "no line"),
+    }
+    assert!(rt; line_at(place, b"theta 1 -1 2").is_none());
     Ok(())
 }

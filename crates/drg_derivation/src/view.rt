@@ -1,87 +1,102 @@
 //! A line of a derivation as it lies in the bytes.
 
-ghost use Rattle.std.specs.Prelude.{◌≡◌, ◌<◌, ◌≤◌, pos, length, drop, slice_index_or, IfOk};
-ghost use Rattle.drg_derivation.specs.Lines.{first_of};
-ghost use Rattle.drg_derivation.specs.Reading.{written_at};
-ghost use Rattle.drg_derivation.specs.Written.{word_text};
+ghost use Rattle.std.specs.Prelude.{◌≡◌, ◌<◌, pos, length, slice_index_or};
+ghost use Rattle.drg_derivation.specs.Words.{array_numbers, claim_words as claim_words_of, words_text, written};
 
-use crate::integers::{count_integers, integer_at, integers_from};
-use crate::word_at::read_word;
-use crate::{Numbers, Word};
-use std::alloc::{AllocError, Global};
-use std::marker::Model;
+use crate::EvidenceView;
+use crate::header::claim_indices;
+use drg_array::{Array, Claim, Test};
 
-/// A line over lent bytes: its word and its numbers, each of them looked at.
+/// A line of a derivation over lent bytes, by what it says.
 #[derive(Debug, Drop)]
-pub struct LineView<'a> {
-    word: Word,
-    text: &'a [u8],
-    count: usize,
+pub enum LineView<'a> {
+    /// `drg` and the version of the text.
+    Version { version: u8 },
+    /// `array`, the diameter and the entries.
+    Array { array: Array },
+    /// `claim`, the name of a test and the indices.
+    Claim { claim: Claim },
+    /// The word of an evidence line and its numbers.
+    Evidence { line: EvidenceView<'a> },
+    /// `end`.
+    End,
 }
 
-impl<'a> Model for LineView<'a> {
-    ghost use Rattle.drg_derivation.specs.Written.{Written};
-    ghost use Rattle.drg_derivation.specs.Reading.{integers_in, IsCounted};
-
-    ghost Value = { Written };
-
-    ghost view = { λ v. record { word = v.word; numbers = integers_in v.text.now } };
-
-    ghost invariant = { λ v. IsCounted v.text.now v.count };
-}
-
-impl<'a> LineView<'a> {
-    /// The line of this text, which has no line end: a word and numbers, at whatever place.
-    #[tactic(auto, unfolding(crate::specs::Reading::written_at))]
-    pub(crate) fn read(text: &'a [u8]) -> Option<LineView<'a>>
-        ensures { result ≡ written_at text.now }
-    {
-        let (word, text) = read_word(text)?;
-        let count = count_integers(text)?;
-        Some(LineView { word, text, count })
-    }
-
+impl LineView<'_> {
     /// The word as it is written, for a claim its two words with one space between.
     pub fn word(&self) -> &'static str
-        ensures { result.now ≡ word_text self.now.word }
+        ensures { result.now ≡ words_text (written self.now) }
     {
-        self.word.text()
-    }
-
-    /// What the line begins with.
-    pub fn begins_with(&self) -> Word
-        ensures { result ≡ self.now.word }
-    {
-        self.word
+        match self {
+            LineView::Version { .. } => "drg",
+            LineView::Array { .. } => "array",
+            LineView::Claim { claim } => claim_words(claim.test()),
+            LineView::Evidence { line } => line.kind().name(),
+            LineView::End => "end",
+        }
     }
 
     /// How many numbers follow the word.
     pub fn count(&self) -> usize
-        ensures { result ≡ length self.now.numbers }
+        ensures { result ≡ length (written self.now).numbers }
     {
-        self.count
+        match self {
+            LineView::Version { .. } => 1,
+            LineView::Array { array } => 1 + 2 * array.d(),
+            LineView::Claim { claim } => claim_indices(claim).len(),
+            LineView::Evidence { line } => line.count(),
+            LineView::End => 0,
+        }
     }
 
-    /// The number at place i, counted from 0. Takes time in proportion to the bytes before it.
+    /// The number at place i, counted from 0.
     pub fn number(&self, i: usize) -> i128
-        requires { i < length self.now.numbers }
-        ensures { result ≡ slice_index_or self.now.numbers i (pos 0) }
+        requires { i < length (written self.now).numbers }
+        ensures { result ≡ slice_index_or (written self.now).numbers i (pos 0) }
     {
-        integer_at(self.text, i)
+        match self {
+            LineView::Version { version } => i128::from(*version),
+            LineView::Array { array } => i128::from(array_number(array, i)),
+            LineView::Claim { claim } => i128::from(claim_indices(claim)[i]),
+            LineView::Evidence { line } => line.number(i),
+            LineView::End => 0,
+        }
     }
+}
 
-    /// The first number, or 0 where there is none.
-    pub(crate) fn first(&self) -> i128
-        ensures { result ≡ first_of self.now.numbers }
-    {
-        if self.count == 0 { 0 } else { self.number(0) }
+/// The number at this place of the line of an array.
+pub(crate) fn array_number(array: &Array, i: usize) -> u16
+    requires { i < length (array_numbers array.now) }
+    ensures { pos result ≡ slice_index_or (array_numbers array.now) i (pos 0) }
+{
+    let d = array.d();
+    if i == 0 {
+        d as u16
+    } else if i <= d {
+        array.b(i - 1)
+    } else {
+        array.c(i - d)
     }
+}
 
-    /// The numbers from place i on.
-    pub(crate) fn numbers_from(&self, alloc: Global, i: usize) -> Result<Numbers, AllocError>
-        requires { i ≤ length self.now.numbers }
-        ensures { IfOk result (λ numbers. numbers ≡ drop i self.now.numbers) }
-    {
-        Ok(Numbers::new(integers_from(alloc, self.text, i)?))
+/// `claim`, a space and the test's name.
+fn claim_words(test: Test) -> &'static str
+    ensures { result.now ≡ claim_words_of test }
+{
+    match test {
+        Test::First => "claim first",
+        Test::Degree => "claim degree",
+        Test::Order => "claim order",
+        Test::Cross => "claim cross",
+        Test::Size => "claim size",
+        Test::Intersect => "claim intersect",
+        Test::Handshake => "claim handshake",
+        Test::Induced => "claim induced",
+        Test::Triangles => "claim triangles",
+        Test::Mult => "claim mult",
+        Test::Krein => "claim krein",
+        Test::Absolute => "claim absolute",
+        Test::Triple => "claim triple",
+        Test::Ktriple => "claim ktriple",
     }
 }

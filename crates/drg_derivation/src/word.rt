@@ -1,59 +1,49 @@
-//! The words that a line of a derivation can begin with.
+//! The words that a line of a derivation begins with.
 
 ghost use Rattle.std.specs.Prelude.{◌≡◌};
-ghost use Rattle.drg_derivation.specs.Written.{word_text};
+ghost use Rattle.drg_derivation.specs.Words.{takes_name as takes_name_of, word_text};
 
 use crate::Kind;
-use drg_array::Test;
 
-/// What a line begins with. A claim's second word, the name of its test, belongs to it.
+/// The first word of a line.
 #[derive(Clone, Copy, Debug, PartialEq, Eq)]
 pub enum Word {
     /// `drg`, which the first line begins with.
     Drg,
     /// `array`, which the second line begins with.
     Array,
-    /// `claim` and the test's name, which the third line begins with.
-    Claim { test: Test },
+    /// `claim`, which the third line begins with.
+    Claim,
     /// The word of an evidence line.
     Evidence { kind: Kind },
     /// `end`, the last line.
     End,
 }
 
+/// The words other than those of evidence lines.
+pub const OTHER_WORDS: [Word; 4] = [Word::End, Word::Drg, Word::Array, Word::Claim];
+
 impl Word {
-    /// The word as it is written, for a claim its two words with one space between.
-    pub fn text(&self) -> &'static str
-        ensures { result.now ≡ word_text self.now }
+    /// The word as it is written.
+    pub fn text(self) -> &'static str
+        ensures { result.now ≡ word_text self }
     {
         match self {
             Word::Drg => "drg",
             Word::Array => "array",
-            Word::Claim { test } => claim_words(*test),
+            Word::Claim => "claim",
             Word::Evidence { kind } => kind.name(),
             Word::End => "end",
         }
     }
-}
 
-/// `claim`, a space and the test's name.
-fn claim_words(test: Test) -> &'static str
-    ensures { result.now ≡ word_text (Word.Claim test) }
-{
-    match test {
-        Test::First => "claim first",
-        Test::Degree => "claim degree",
-        Test::Order => "claim order",
-        Test::Cross => "claim cross",
-        Test::Size => "claim size",
-        Test::Intersect => "claim intersect",
-        Test::Handshake => "claim handshake",
-        Test::Induced => "claim induced",
-        Test::Triangles => "claim triangles",
-        Test::Mult => "claim mult",
-        Test::Krein => "claim krein",
-        Test::Absolute => "claim absolute",
-        Test::Triple => "claim triple",
-        Test::Ktriple => "claim ktriple",
+    /// Whether the name of a claim follows as a second word.
+    pub fn takes_name(self) -> bool
+        ensures { result ≡ takes_name_of self }
+    {
+        match self {
+            Word::Claim => true,
+            _ => false,
+        }
     }
 }

@@ -1,10 +1,13 @@
-//! The word at the front of a line.
+//! The words at the front of a line.
 
 ghost use Rattle.std.specs.Prelude.{◌≡◌};
-ghost use Rattle.drg_derivation.specs.Reading.{claim_at, rest_part, seen, test_named as test_named_of, word_at as word_at_of, word_named as word_named_of, word_part};
+ghost use Rattle.drg_derivation.specs.Reading.{seen};
+ghost use Rattle.drg_derivation.specs.WordReading.{kind_named as kind_named_of, name_at, other_word as other_word_of, rest_part, test_named as test_named_of, word_at as word_at_of, word_named as word_named_of, word_part};
 
+use crate::Kind;
 use crate::integers::after_byte;
-use crate::{Kind, Word};
+use crate::kind::KINDS;
+use crate::word::{OTHER_WORDS, Word};
 use drg_array::Test;
 
 /// The tests that a claim can name.
@@ -25,29 +28,6 @@ const TESTS: [Test; 14] = [
     Test::Ktriple,
 ];
 
-/// The words of lines other than claims, the evidence first.
-const WORDS: [Word; 19] = [
-    Word::Evidence { kind: Kind::Comb },
-    Word::Evidence { kind: Kind::Low },
-    Word::Evidence { kind: Kind::High },
-    Word::Evidence { kind: Kind::Eq },
-    Word::Evidence { kind: Kind::Miss },
-    Word::Evidence { kind: Kind::Split },
-    Word::Evidence { kind: Kind::Mod },
-    Word::Evidence { kind: Kind::Void },
-    Word::Evidence { kind: Kind::P },
-    Word::Evidence { kind: Kind::K },
-    Word::Evidence { kind: Kind::Prow },
-    Word::Evidence { kind: Kind::Qrow },
-    Word::Evidence { kind: Kind::Krein },
-    Word::Evidence { kind: Kind::Keq },
-    Word::Evidence { kind: Kind::Theta },
-    Word::Evidence { kind: Kind::Frame },
-    Word::End,
-    Word::Drg,
-    Word::Array,
-];
-
 /// The bytes before the first space, and those from it on.
 fn split_word(text: &[u8]) -> (&[u8], &[u8])
     ensures word { result.0.now ≡ word_part text.now }
@@ -64,7 +44,7 @@ fn split_word(text: &[u8]) -> (&[u8], &[u8])
 }
 
 /// The test of this name.
-#[tactic(auto, unfolding(crate::specs::Reading::test_named))]
+#[tactic(auto, unfolding(crate::specs::WordReading::test_named))]
 fn test_named(name: &[u8]) -> Option<Test>
     ensures { result ≡ test_named_of name.now }
 {
@@ -76,12 +56,25 @@ fn test_named(name: &[u8]) -> Option<Test>
     None
 }
 
-/// The word of this text, which isn't a claim's.
-#[tactic(auto, unfolding(crate::specs::Reading::word_named))]
-fn word_named(name: &[u8]) -> Option<Word>
-    ensures { result ≡ word_named_of name.now }
+/// The kind of evidence line with this word.
+#[tactic(auto, unfolding(crate::specs::WordReading::kind_named))]
+fn kind_named(name: &[u8]) -> Option<Kind>
+    ensures { result ≡ kind_named_of name.now }
 {
-    'words: for word in &WORDS {
+    'kinds: for kind in &KINDS {
+        if name == kind.name().as_bytes() {
+            return Some(*kind);
+        }
+    }
+    None
+}
+
+/// The word of this text, which isn't that of an evidence line.
+#[tactic(auto, unfolding(crate::specs::WordReading::other_word))]
+fn other_word(name: &[u8]) -> Option<Word>
+    ensures { result ≡ other_word_of name.now }
+{
+    'words: for word in &OTHER_WORDS {
         if name == word.text().as_bytes() {
             return Some(*word);
         }
@@ -89,25 +82,36 @@ fn word_named(name: &[u8]) -> Option<Word>
     None
 }
 
-/// A claim's words, where the name of the test follows.
-#[tactic(auto, unfolding(crate::specs::Reading::claim_at))]
-fn read_claim(rest: &[u8]) -> Option<(Word, &[u8])>
-    ensures { seen result ≡ claim_at rest.now }
+/// The word of this text.
+#[tactic(auto, unfolding(crate::specs::WordReading::word_named))]
+fn word_named(name: &[u8]) -> Option<Word>
+    ensures { result ≡ word_named_of name.now }
 {
-    let (name, rest) = split_word(after_byte(rest, b' ')?);
-    let test = test_named(name)?;
-    Some((Word::Claim { test }, rest))
+    match kind_named(name) {
+        Some(kind) => Some(Word::Evidence { kind }),
+        None => other_word(name),
+    }
 }
 
-/// The word at the front, for a claim its two words, and what follows it.
-#[tactic(auto, unfolding(crate::specs::Reading::word_at))]
+/// The name of a claim after a space, where one is taken, and what follows it.
+#[tactic(auto, unfolding(crate::specs::WordReading::name_at, crate::specs::WordReading::test_at))]
+pub fn read_name(word: Word, rest: &[u8]) -> Option<(Option<Test>, &[u8])>
+    ensures { seen result ≡ name_at word rest.now }
+{
+    if !word.takes_name() {
+        return Some((None, rest));
+    }
+    let (name, rest) = split_word(after_byte(rest, b' ')?);
+    let test = test_named(name)?;
+    Some((Some(test), rest))
+}
+
+/// The word at the front, and what follows it.
+#[tactic(auto, unfolding(crate::specs::WordReading::word_at))]
 pub fn read_word(text: &[u8]) -> Option<(Word, &[u8])>
     ensures { seen result ≡ word_at_of text.now }
 {
     let (name, rest) = split_word(text);
-    if name == "claim".as_bytes() {
-        return read_claim(rest);
-    }
     let word = word_named(name)?;
     Some((word, rest))
 }

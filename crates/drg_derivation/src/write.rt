@@ -2,9 +2,11 @@
 
 ghost use Rattle.std.specs.Prelude.{◌≡◌, ◌++◌, ◌∷◌, [], OnOk, map, pos, drop, take};
 ghost use Rattle.drg_derivation.specs.Integers.{integers_text};
-ghost use Rattle.drg_derivation.specs.Text.{derivation_text};
-ghost use Rattle.drg_derivation.specs.Written.{array_line, claim_line, evidence_line, evidence_lines, written_text, written_texts};
+ghost use Rattle.drg_derivation.specs.Text.{derivation_text, evidence_views, written_texts};
+ghost use Rattle.drg_derivation.specs.Words.{written, written_text};
+ghost use Rattle.drg_derivation.specs.declared.view.LineView.TheVariants.{Array as ArrayView, Claim as ClaimView, Evidence as EvidenceLine};
 
+use crate::view::array_number;
 use crate::{Derivation, Line};
 use drg_array::{Array, Claim};
 use itoa::Buffer;
@@ -26,32 +28,19 @@ impl Derivation {
 
 /// Appends the line of the array.
 fn write_array(array: &Array, out: &mut Vec<u8>) -> Result<(), AllocError>
-    ensures { OnOk result (out.new.items ≡ out.old.items ++ (written_text (array_line array.now) ++ 10 ∷ [])) }
+    ensures { OnOk result (out.new.items ≡ out.old.items ++ (written_text (written (ArrayView array.now)) ++ 10 ∷ [])) }
 {
-    let d = array.d();
     out.extend_from_slice(b"array")?;
-    write_number(d as i128, out)?;
-    'b: for i in 0..d {
-        write_number(i128::from(array.b(i)), out)?;
+    'numbers: for i in 0..1 + 2 * array.d() {
+        write_number(i128::from(array_number(array, i)), out)?;
     }
-    write_after(array, out)?;
     out.push(b'\n')?;
-    Ok(())
-}
-
-/// Appends the entries `c_1` to `c_d`.
-fn write_after(array: &Array, out: &mut Vec<u8>) -> Result<(), AllocError>
-    ensures { OnOk result (out.new.items ≡ out.old.items ++ integers_text (map pos array.now.c)) }
-{
-    'c: for i in 0..array.d() {
-        write_number(i128::from(array.c(i + 1)), out)?;
-    }
     Ok(())
 }
 
 /// Appends the line of the claim.
 fn write_claim(claim: &Claim, out: &mut Vec<u8>) -> Result<(), AllocError>
-    ensures { OnOk result (out.new.items ≡ out.old.items ++ (written_text (claim_line claim.now) ++ 10 ∷ [])) }
+    ensures { OnOk result (out.new.items ≡ out.old.items ++ (written_text (written (ClaimView claim.now)) ++ 10 ∷ [])) }
 {
     out.extend_from_slice(b"claim ")?;
     claim.write_text(out)?;
@@ -61,7 +50,7 @@ fn write_claim(claim: &Claim, out: &mut Vec<u8>) -> Result<(), AllocError>
 
 /// Appends the evidence lines.
 fn write_lines(lines: &[Line], out: &mut Vec<u8>) -> Result<(), AllocError>
-    ensures { OnOk result (out.new.items ≡ out.old.items ++ written_texts (evidence_lines lines.now)) }
+    ensures { OnOk result (out.new.items ≡ out.old.items ++ written_texts (evidence_views lines.now)) }
 {
     'lines: for line in lines {
         write_line(line, out)?;
@@ -71,11 +60,12 @@ fn write_lines(lines: &[Line], out: &mut Vec<u8>) -> Result<(), AllocError>
 
 /// Appends an evidence line.
 fn write_line(line: &Line, out: &mut Vec<u8>) -> Result<(), AllocError>
-    ensures { OnOk result (out.new.items ≡ out.old.items ++ (written_text (evidence_line line.now) ++ 10 ∷ [])) }
+    ensures { OnOk result (out.new.items ≡ out.old.items ++ (written_text (written (EvidenceLine line.now)) ++ 10 ∷ [])) }
 {
-    out.extend_from_slice(line.kind().name().as_bytes())?;
-    write_numbers(&line.front(), out)?;
-    write_numbers(line.list(), out)?;
+    let parts = line.parts();
+    out.extend_from_slice(parts.kind.name().as_bytes())?;
+    write_numbers(&parts.leading, out)?;
+    write_numbers(parts.tail, out)?;
     out.push(b'\n')?;
     Ok(())
 }

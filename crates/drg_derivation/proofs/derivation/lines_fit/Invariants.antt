@@ -4,6 +4,6 @@ use Rattle.drg_derivation.proofs.derivation.lines_fit.Given as goal
 
 abbrev pub invariant-lines : goal.invariant-lines
 invariant-lines l = record {
-  there : AreFit l.d l.width (drop l.line-index l.lines) → AreFit l.d 2 l.lines;
-  back : AreFit l.d 2 l.lines → AreFit l.d l.width (drop l.line-index l.lines);
+  there : AreFit l.context (drop l.line-index l.lines) → AreFit l.fn.context l.lines;
+  back : AreFit l.fn.context l.lines → AreFit l.context (drop l.line-index l.lines);
 }

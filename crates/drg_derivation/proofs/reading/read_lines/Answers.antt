@@ -1,8 +1,7 @@
 use Rattle.std.proofs.Common.{arith, rules}
 use Rattle.std.proofs.lemmas.Grind.{common_steps}
 use Rattle.drg_derivation.specs.Faults.{IsStop}
-use Rattle.drg_derivation.proofs.HandsLaws.{stop-after}
-use Rattle.drg_derivation.proofs.EvidenceLaws.{lines-more, lines-end, among-evidence}
+use Rattle.drg_derivation.proofs.ReadingLaws.{stop-after, hands-line, hands-end}
 use Rattle.drg_derivation.proofs.reading.read_lines.Goals as goal
 
 pub returns-in_err-line-clause-refused : goal.returns-in_err-line-clause-refused
@@ -11,11 +10,9 @@ returns-in_err-line-clause-refused c =
     first_of (search (rules, h), grind (arith, common_steps, h))
 
 pub lines-preserved : goal.lines-preserved
-lines-preserved c = record {
-  hands = lines-more _ _ _ _ _ _ _ _ c.lines.invariant.hands c.in_ok-line.ensures.ok c.begins_with.ensures c.in-Evidence.is c.in-Ok.ensures;
-  among = (among-evidence _ _ _ _ _ c.lines.invariant.among c.in_ok-line.ensures.ok c.begins_with.ensures c.in-Evidence.is).1;
-}
+lines-preserved c =
+    let all = hands-line _ _ _ _ _ _ _ c.lines.invariant.hands c.lines.invariant.among c.in_ok-line.ensures.ok c.in-Evidence.is c.in_ok-push_line-in-Evidence.ensures in
+    record { hands = all.hands; among = all.among }
 
 pub returns-in-End-clause-ok : goal.returns-in-End-clause-ok
-returns-in-End-clause-ok c =
-    lines-end _ _ _ _ _ _ c.lines.invariant.hands c.lines.invariant.among c.in_ok-line.ensures.ok c.begins_with.ensures c.in-End.is
+returns-in-End-clause-ok c = hands-end _ _ _ _ _ c.lines.invariant.hands c.in_ok-line.ensures.ok c.in-End.is

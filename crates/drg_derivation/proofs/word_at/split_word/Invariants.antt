@@ -1,5 +1,5 @@
 use Rattle.std.proofs.Common.{◌≡◌, ◌++◌, take, drop}
-use Rattle.drg_derivation.specs.Reading.{word_part, rest_part}
+use Rattle.drg_derivation.specs.WordReading.{word_part, rest_part}
 use Rattle.drg_derivation.proofs.word_at.split_word.Given as goal
 
 abbrev pub invariant-bytes : goal.invariant-bytes

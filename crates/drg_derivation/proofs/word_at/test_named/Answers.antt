@@ -1,7 +1,7 @@
 use Rattle.std.proofs.Common.{◌∙◌, arith}
 use Rattle.drg_array.specs.Claims.{test_name}
 use Rattle.drg_array.specs.declared.test.Test.TheVariants.{First}
-use Rattle.drg_derivation.specs.Reading.{tests}
+use Rattle.drg_derivation.specs.WordReading.{tests}
 use Rattle.drg_derivation.proofs.WordLaws.{named-next}
 use Rattle.drg_derivation.proofs.word_at.test_named.Goals as goal
 
