@@ -1,5 +1,5 @@
 -- An accepted derivation of a claim that the array fails has a text.
-use Rattle.std.proofs.Common.{◌≡◌, ℕ, zero, suc, ◌+◌, ◌-◌, ◌*◌, ◌^◌, ◌<◌, ◌≤◌, true, List, [], ◌∷◌, length, reverse, Ok, sym, ap, ◌∙◌, subst, arith, inl, inr, Option}
+use Rattle.std.proofs.Common.{◌≡◌, ℕ, zero, suc, ◌+◌, ◌-◌, ◌*◌, ◌^◌, ◌<◌, ◌≤◌, true, List, [], ◌∷◌, length, reverse, Ok, refl, sym, ap, ◌∙◌, subst, arith, inl, inr, Option}
 use Rattle.std.specs.Prelude.{ℤ, pos, negsuc, ◌*ℤ◌, ◌⊎◌, int_le, unsigned_abs}
 use Rattle.std.specs.List.{AllByRecursion}
 use Rattle.std.proofs.lemmas.Int.{ints, unsigned_abs-mul}
@@ -15,7 +15,10 @@ use Rattle.drg_derivation.specs.declared.line.Line.{Line}
 use Rattle.drg_derivation.specs.declared.line.Line.TheVariants.{K, P, Frame}
 use Rattle.drg_derivation.specs.Integers.{IsShort}
 use Rattle.drg_derivation.specs.Lines.{AreEvidence, AreShort}
-use Rattle.drg_derivation.specs.Text.{IsClaim}
+use Rattle.drg_derivation.specs.Shapes.{width_of}
+use Rattle.drg_derivation.specs.Text.{context_of}
+use Rattle.drg_derivation.specs.Words.{IsClaim}
+use Rattle.drg_derivation.specs.declared.context.Context.{Context}
 use Rattle.drg_replay.specs.Known.{KnownContent}
 use Rattle.drg_replay.specs.Steps.{EachHolds}
 use Rattle.drg_whole.specs.Range.{in_range}
@@ -111,12 +114,14 @@ all_in Q (line ∷ lines) earlier here there = all_in Q lines (line ∷ earlier)
 all_back : (Q : Line → Type 0) (lines : List Line) → AllByRecursion Q (reverse lines) → AllByRecursion Q lines
 all_back Q lines all = subst (AllByRecursion Q) (all_onto (reverse lines) ∙ reverse-reverse lines) (all_in Q (reverse lines) [] all tt)
 
-evidence : (a : Entries) (width : ℕ) (lines : List Line) → AllByRecursion (CanStand a) lines → AreEvidence (diameter a) width lines
-evidence a width [] all = tt
-evidence a width (K values ∷ lines) all = (let can = all.0 in (can.0, omega (arith, can.1)), evidence a width lines all.1)
-evidence a width (P h i values ∷ lines) all = (let count = all.0.0 in omega (arith, count), evidence a width lines all.1)
-evidence a width (Frame root ∷ lines) all = (omega arith, evidence a _ lines all.1)
-evidence a width (line ∷ lines) all = absurd all.0
+evidence : (a : Entries) (context : Context) (lines : List Line) → context.d ≡ diameter a → 1 ≤ context.version → AllByRecursion (CanStand a) lines → AreEvidence context lines
+evidence a context [] d v all = tt
+evidence a context (K values ∷ lines) d v all =
+    (let can = all.0 in record { known = v; led = omega arith; followed = (omega arith, omega arith) }, evidence a context lines d v all.1)
+evidence a context (P h i values ∷ lines) d v all =
+    (let count = all.0.0 in record { known = v; led = omega arith; followed = omega arith }, evidence a context lines d v all.1)
+evidence a context (Frame root ∷ lines) d v all = (record { known = v; led = omega arith; followed = omega arith }, evidence a (record context { width = width_of root }) lines d v all.1)
+evidence a context (line ∷ lines) d v all = absurd all.0
 
 all_short : (a : Entries) (lines : List Line) → AllByRecursion (CanStand a) lines → AreShort lines
 all_short a [] all = tt
@@ -147,4 +152,4 @@ has_text derivation array fails made are =
     let end = accepted (progress_of a derivation.claim lines) Counting (length lines + 4) answer in
     let met = (all_are_met a derivation.claim lines end.known end.all_met).0 in
     let all = all_back (CanStand a) derivation.lines (all_stand a derivation.claim array lines met) in
-    record { array = array; claim = small a derivation.claim array fails; evidence = evidence a 2 derivation.lines all; short = all_short a derivation.lines all }
+    record { array = array; claim = small a derivation.claim array fails; evidence = evidence a (context_of a) derivation.lines refl (omega arith) all; short = all_short a derivation.lines all }

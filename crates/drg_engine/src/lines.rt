@@ -12,7 +12,7 @@ ghost use Rattle.drg_engine.specs.Made.{AreMade};
 ghost use Rattle.drg_engine.specs.Lines.{AreLinesOf, AreRowLines, AreSizesAndRows, IsRowLine, IsSizeLine};
 
 use drg_array::{Array, Claim};
-use drg_derivation::{Line, Numbers};
+use drg_derivation::{Line, NumberList};
 use drg_intersection::{rows_before, sizes_before};
 use std::alloc::{AllocError, Global};
 
@@ -39,7 +39,7 @@ fn size_lines(alloc: Global, array: &Array, i: usize) -> Result<Vec<Line>, Alloc
     ensures { IfOk result (λ lines.
         (line : TheLine) × (lines.items ≡ line ∷ []) × IsSizeLine array.now i line) }
 {
-    let values = Numbers::new(sizes_before(alloc, array, i)?);
+    let values = NumberList::new(sizes_before(alloc, array, i)?);
     let mut lines = Vec::new(alloc);
     lines.push(Line::K { values })?;
     Ok(lines)
@@ -111,6 +111,6 @@ fn row_line(
     Ok(Line::P {
         h: i128::from(h),
         i: i as i128,
-        values: Numbers::new(values),
+        values: NumberList::new(values),
     })
 }

@@ -11,7 +11,7 @@ use crate::refusal::{Refusal, met_where, not_built};
 use crate::rows::{balance_sum, row_stands};
 use crate::sizes::{size_at, values_of};
 use drg_array::{Array, Claim};
-use drg_derivation::Numbers;
+use drg_derivation::NumberList;
 
 /// Whether i is from 1 to d.
 fn is_distance(array: &Array, i: u8) -> bool
@@ -43,7 +43,7 @@ pub fn claim_is_met(array: &Array, claim: Claim) -> bool
 }
 
 /// Whether `size i` is closed.
-fn check_size(array: &Array, sizes: &Option<Numbers>, i: usize) -> Result<(), Refusal>
+fn check_size(array: &Array, sizes: &Option<NumberList>, i: usize) -> Result<(), Refusal>
     requires low { 1 ≤ i }
     requires high { i ≤ diameter array.now }
     ensures { result ≡ first_failure (size_closing array.now sizes.now i) }
@@ -60,7 +60,7 @@ fn check_size(array: &Array, sizes: &Option<Numbers>, i: usize) -> Result<(), Re
 fn check_intersect(
     array: &Array,
     h: usize,
-    rows: &[Numbers],
+    rows: &[NumberList],
     i: usize,
     j: usize,
 ) -> Result<(), Refusal>

@@ -5,14 +5,14 @@ ghost use Rattle.drg_replay.specs.Rows.{rows_at as the_rows_at};
 ghost use Rattle.drg_replay.specs.Lines.{counts_at_start, with_row};
 
 use drg_array::Array;
-use drg_derivation::Numbers;
+use drg_derivation::NumberList;
 use std::alloc::{AllocError, Global};
 use std::marker::Model;
 
 /// The rows of intersection numbers with one upper index, from row 1 on.
 #[derive(Debug, Drop)]
 pub struct Rows {
-    rows: Vec<Numbers>,
+    rows: Vec<NumberList>,
 }
 
 impl Model for Rows {
@@ -26,7 +26,7 @@ impl Model for Rows {
 /// The sizes, and the rows of each upper index.
 #[derive(Debug, Drop)]
 pub struct Counts {
-    sizes: Option<Numbers>,
+    sizes: Option<NumberList>,
     rows: Vec<Rows>,
 }
 
@@ -63,14 +63,14 @@ impl Counts {
     }
 
     /// The numbers of the `k` line.
-    pub fn sizes(&self) -> &Option<Numbers>
+    pub fn sizes(&self) -> &Option<NumberList>
         ensures { result.now ≡ self.now.sizes }
     {
         &self.sizes
     }
 
     /// The rows of an upper index, from row 1 on.
-    pub fn rows_at(&self, h: usize) -> &[Numbers]
+    pub fn rows_at(&self, h: usize) -> &[NumberList]
         requires { h < length self.now.rows }
         ensures { result.now ≡ the_rows_at self.now.rows h }
     {
@@ -78,14 +78,14 @@ impl Counts {
     }
 
     /// Keeps the numbers of a `k` line.
-    pub fn keep_sizes(&mut self, sizes: Numbers)
+    pub fn keep_sizes(&mut self, sizes: NumberList)
         ensures { self.new ≡ record self.old { sizes = Some sizes } }
     {
         self.sizes = Some(sizes);
     }
 
     /// Appends a row of an upper index.
-    pub fn keep_row(&mut self, h: usize, row: Numbers) -> Result<(), AllocError>
+    pub fn keep_row(&mut self, h: usize, row: NumberList) -> Result<(), AllocError>
         requires { h < length self.old.rows }
         ensures ok { OnOk result (self.new ≡ with_row self.old h row) }
         ensures err { OnErr result (self.new ≡ self.old) }

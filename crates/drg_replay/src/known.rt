@@ -13,7 +13,7 @@ use crate::refusal::{Fault, not_built};
 use crate::rows::check_row;
 use crate::sizes::check_sizes;
 use drg_array::{Array, Claim};
-use drg_derivation::{Line, Numbers};
+use drg_derivation::{Line, NumberList};
 use std::alloc::{AllocError, Global};
 use std::marker::Model;
 
@@ -41,10 +41,10 @@ impl Model for Known {
         × (length k.counts.rows ≡ diameter k.array + 1) };
 }
 
-fn copied(alloc: Global, numbers: &Numbers) -> Result<Numbers, AllocError>
+fn copied(alloc: Global, numbers: &NumberList) -> Result<NumberList, AllocError>
     ensures { IfOk result (λ copy. copy ≡ numbers.now) }
 {
-    Ok(Numbers::new(numbers.as_slice().to_vec(alloc)?))
+    Ok(NumberList::new(numbers.as_slice().to_vec(alloc)?))
 }
 
 impl Known {
@@ -94,7 +94,7 @@ impl Known {
     }
 
     /// Takes a `k` line.
-    fn take_sizes(&mut self, values: &Numbers) -> Result<(), Fault>
+    fn take_sizes(&mut self, values: &NumberList) -> Result<(), Fault>
         ensures { TakesLine result (K values.now) self.old self.new }
     {
         check_sizes(&self.array, self.counts.sizes(), values.as_slice())?;
@@ -104,7 +104,7 @@ impl Known {
     }
 
     /// Takes a `p` line.
-    fn take_row(&mut self, h: i128, i: i128, values: &Numbers) -> Result<(), Fault>
+    fn take_row(&mut self, h: i128, i: i128, values: &NumberList) -> Result<(), Fault>
         ensures { TakesLine result (P h i values.now) self.old self.new }
     {
         let d = self.array.d();

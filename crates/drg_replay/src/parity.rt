@@ -10,7 +10,7 @@ use crate::refusal::{Refusal, met_where};
 use crate::rows::{entry, row_stands};
 use crate::sizes::{is_full, size_at, values_of};
 use drg_array::Array;
-use drg_derivation::Numbers;
+use drg_derivation::NumberList;
 use drg_whole::Residue;
 
 /// Whether m divides a number.
@@ -22,7 +22,7 @@ pub fn divides(m: u16, number: i128) -> bool
 }
 
 /// The residue of n·k_i, the ordered pairs at distance i.
-fn pairs_residue(m: u16, sizes: &Option<Numbers>, i: usize) -> Residue
+fn pairs_residue(m: u16, sizes: &Option<NumberList>, i: usize) -> Residue
     requires { 0 < m }
     ensures modulus { result.modulus ≡ m }
     ensures value { IsResidueOf result (vertex_count sizes.now *ℤ the_size_at sizes.now i) }
@@ -32,7 +32,7 @@ fn pairs_residue(m: u16, sizes: &Option<Numbers>, i: usize) -> Residue
 }
 
 /// Whether `handshake i` is closed: n·k_i is odd.
-pub fn check_handshake(array: &Array, sizes: &Option<Numbers>, i: usize) -> Result<(), Refusal>
+pub fn check_handshake(array: &Array, sizes: &Option<NumberList>, i: usize) -> Result<(), Refusal>
     ensures { result ≡ first_failure (handshake_closing array.now sizes.now i) }
 {
     if !is_full(array, sizes) {
@@ -44,8 +44,8 @@ pub fn check_handshake(array: &Array, sizes: &Option<Numbers>, i: usize) -> Resu
 /// Whether `induced i j` is closed: k_i·p^i_ij is odd.
 pub fn check_induced(
     array: &Array,
-    sizes: &Option<Numbers>,
-    rows: &[Numbers],
+    sizes: &Option<NumberList>,
+    rows: &[NumberList],
     i: usize,
     j: usize,
 ) -> Result<(), Refusal>
@@ -62,8 +62,8 @@ pub fn check_induced(
 /// Whether `triangles i` is closed: 6 doesn't divide n·k_i·p^i_ii.
 pub fn check_triangles(
     array: &Array,
-    sizes: &Option<Numbers>,
-    rows: &[Numbers],
+    sizes: &Option<NumberList>,
+    rows: &[NumberList],
     i: usize,
 ) -> Result<(), Refusal>
     ensures { result ≡ first_failure (triangles_closing array.now sizes.now rows.now i) }

@@ -9,11 +9,11 @@ ghost use Rattle.drg_replay.specs.Rows.{entry as the_entry, entry_before as the_
 use crate::entries::{b_before, c_after, see_bounds};
 use crate::refusal::{Refusal, met_where_same};
 use drg_array::Array;
-use drg_derivation::Numbers;
+use drg_derivation::NumberList;
 use drg_whole::{Product, Whole, Wide, sum_onto};
 
 /// Whether row i stands among the rows of an upper index. Row 0 is given.
-pub fn row_stands(rows: &[Numbers], i: usize) -> bool
+pub fn row_stands(rows: &[NumberList], i: usize) -> bool
     ensures { result ≡ the_row_stands rows.now i }
 {
     i <= rows.len()
@@ -27,7 +27,7 @@ pub fn number_at(numbers: &[i128], j: usize) -> i128
 }
 
 /// `p^h_ij` as the rows of h state it.
-pub fn entry(h: usize, rows: &[Numbers], i: usize, j: usize) -> i128
+pub fn entry(h: usize, rows: &[NumberList], i: usize, j: usize) -> i128
     ensures { result ≡ the_entry h rows.now i j }
 {
     if i == 0 {
@@ -41,21 +41,21 @@ pub fn entry(h: usize, rows: &[Numbers], i: usize, j: usize) -> i128
 }
 
 /// The entry one place before, and 0 where there is none.
-fn entry_before(h: usize, rows: &[Numbers], i: usize, j: usize) -> i128
+fn entry_before(h: usize, rows: &[NumberList], i: usize, j: usize) -> i128
     ensures { result ≡ the_entry_before h rows.now i j }
 {
     if j == 0 { 0 } else { entry(h, rows, i, j - 1) }
 }
 
 /// The entry one row above, and 0 where there is none.
-fn entry_above(h: usize, rows: &[Numbers], i: usize, j: usize) -> i128
+fn entry_above(h: usize, rows: &[NumberList], i: usize, j: usize) -> i128
     ensures { result ≡ the_entry_above h rows.now i j }
 {
     if i == 0 { 0 } else { entry(h, rows, i - 1, j) }
 }
 
 /// `b_(j-1) p^h_(i,j-1)`.
-fn term_before(array: &Array, h: usize, rows: &[Numbers], i: usize, j: usize) -> Product
+fn term_before(array: &Array, h: usize, rows: &[NumberList], i: usize, j: usize) -> Product
     requires { j ≤ diameter array.now }
     ensures { result ≡
         of_factors (pos (the_b_before array.now j)) (the_entry_before h rows.now i j) }
@@ -67,7 +67,7 @@ fn term_before(array: &Array, h: usize, rows: &[Numbers], i: usize, j: usize) ->
 }
 
 /// `a_j p^h_ij`.
-fn term_at(array: &Array, h: usize, rows: &[Numbers], i: usize, j: usize) -> Product
+fn term_at(array: &Array, h: usize, rows: &[NumberList], i: usize, j: usize) -> Product
     requires { j ≤ diameter array.now }
     ensures { result ≡ of_factors (a_at array.now j) (the_entry h rows.now i j) }
 {
@@ -78,7 +78,7 @@ fn term_at(array: &Array, h: usize, rows: &[Numbers], i: usize, j: usize) -> Pro
 }
 
 /// `c_(j+1) p^h_(i,j+1)`.
-fn term_after(array: &Array, h: usize, rows: &[Numbers], i: usize, j: usize) -> Product
+fn term_after(array: &Array, h: usize, rows: &[NumberList], i: usize, j: usize) -> Product
     requires { j ≤ diameter array.now }
     ensures { result ≡
         of_factors (pos (c_at array.now (suc j))) (the_entry h rows.now i (suc j)) }
@@ -91,7 +91,7 @@ fn term_after(array: &Array, h: usize, rows: &[Numbers], i: usize, j: usize) -> 
 }
 
 /// `-b_(i-1) p^h_(i-1,j)`.
-fn term_above(array: &Array, h: usize, rows: &[Numbers], i: usize, j: usize) -> Product
+fn term_above(array: &Array, h: usize, rows: &[NumberList], i: usize, j: usize) -> Product
     requires { i ≤ diameter array.now }
     ensures { result ≡
         of_factors (neg_ℤ (pos (the_b_before array.now i))) (the_entry_above h rows.now i j) }
@@ -103,7 +103,7 @@ fn term_above(array: &Array, h: usize, rows: &[Numbers], i: usize, j: usize) -> 
 }
 
 /// `-a_i p^h_ij`.
-fn term_same(array: &Array, h: usize, rows: &[Numbers], i: usize, j: usize) -> Product
+fn term_same(array: &Array, h: usize, rows: &[NumberList], i: usize, j: usize) -> Product
     requires { i ≤ diameter array.now }
     ensures { result ≡ of_factors (neg_ℤ (a_at array.now i)) (the_entry h rows.now i j) }
 {
@@ -115,7 +115,7 @@ fn term_same(array: &Array, h: usize, rows: &[Numbers], i: usize, j: usize) -> P
 
 /// The terms of `N(h,i+1,j)`.
 #[tactic(auto, unfolding(crate::specs::Rows::balance))]
-fn balance_of(array: &Array, h: usize, rows: &[Numbers], i: usize, j: usize) -> [Product; 5]
+fn balance_of(array: &Array, h: usize, rows: &[NumberList], i: usize, j: usize) -> [Product; 5]
     requires j { j ≤ diameter array.now }
     requires i { i < diameter array.now }
     ensures { result ≡ balance array.now h rows.now i j }
@@ -133,7 +133,7 @@ fn balance_of(array: &Array, h: usize, rows: &[Numbers], i: usize, j: usize) -> 
 pub fn balance_sum(
     array: &Array,
     h: usize,
-    rows: &[Numbers],
+    rows: &[NumberList],
     i: usize,
     j: usize,
 ) -> Result<Whole, Wide>
@@ -149,7 +149,7 @@ pub fn balance_sum(
 fn check_balance(
     array: &Array,
     h: usize,
-    rows: &[Numbers],
+    rows: &[NumberList],
     i: usize,
     j: usize,
     value: i128,
@@ -171,7 +171,7 @@ fn check_balance(
 fn check_balances(
     array: &Array,
     h: usize,
-    rows: &[Numbers],
+    rows: &[NumberList],
     i: usize,
     j: usize,
     values: &[i128],
@@ -194,7 +194,7 @@ fn check_balances(
 pub fn check_row(
     array: &Array,
     h: usize,
-    rows: &[Numbers],
+    rows: &[NumberList],
     i: usize,
     values: &[i128],
 ) -> Result<(), Refusal>

@@ -8,7 +8,7 @@ use crate::entries::{c_after, see_bounds, times_entry};
 use crate::refusal::{Refusal, met_where_same};
 use crate::rows::number_at;
 use drg_array::Array;
-use drg_derivation::Numbers;
+use drg_derivation::NumberList;
 
 /// Whether the value is `k_(i+1)`, after `k_i`, which is `last`.
 fn check_next(array: &Array, i: usize, last: i128, value: i128) -> Result<(), Refusal>
@@ -36,7 +36,7 @@ fn check_sizes_from(array: &Array, i: usize, last: i128, values: &[i128]) -> Res
 }
 
 /// Whether a `k` line with these numbers is met.
-pub fn check_sizes(array: &Array, sizes: &Option<Numbers>, values: &[i128]) -> Result<(), Refusal>
+pub fn check_sizes(array: &Array, sizes: &Option<NumberList>, values: &[i128]) -> Result<(), Refusal>
     ensures { result ≡ first_failure (size_steps array.now sizes.now values.now) }
 {
     let Some((first, rest)) = values.split_first() else {
@@ -49,7 +49,7 @@ pub fn check_sizes(array: &Array, sizes: &Option<Numbers>, values: &[i128]) -> R
 }
 
 /// The numbers of the `k` line, and none where it doesn't stand.
-pub fn values_of(sizes: &Option<Numbers>) -> &[i128]
+pub fn values_of(sizes: &Option<NumberList>) -> &[i128]
     ensures { result.now ≡ the_values_of sizes.now }
 {
     match sizes {
@@ -59,7 +59,7 @@ pub fn values_of(sizes: &Option<Numbers>) -> &[i128]
 }
 
 /// Whether all sizes up to `k_d` stand.
-pub fn is_full(array: &Array, sizes: &Option<Numbers>) -> bool
+pub fn is_full(array: &Array, sizes: &Option<NumberList>) -> bool
     ensures { result ≡ the_is_full array.now sizes.now }
 {
     let d = array.d();
@@ -67,7 +67,7 @@ pub fn is_full(array: &Array, sizes: &Option<Numbers>) -> bool
 }
 
 /// The size `k_i`, and 0 where it doesn't stand.
-pub fn size_at(sizes: &Option<Numbers>, i: usize) -> i128
+pub fn size_at(sizes: &Option<NumberList>, i: usize) -> i128
     ensures { result ≡ the_size_at sizes.now i }
 {
     number_at(values_of(sizes), i)

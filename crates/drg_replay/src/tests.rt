@@ -1,7 +1,7 @@
 use crate::judge::replay_lines;
 use crate::{ReplayFault, replay};
 use drg_array::{Array, Claim, Class};
-use drg_derivation::{Derivation, Line, Numbers};
+use drg_derivation::{Derivation, Line, NumberList};
 use std::alloc::Global;
 use std::test::Fail;
 
@@ -19,8 +19,8 @@ fn wide(line: u64) -> Result<Class, ReplayFault> {
     Err(ReplayFault::Wide { line })
 }
 
-fn numbers(alloc: Global, values: &[i128]) -> Result<Numbers, Fail> {
-    Ok(Numbers::new(values.to_vec(alloc)?))
+fn numbers(alloc: Global, values: &[i128]) -> Result<NumberList, Fail> {
+    Ok(NumberList::new(values.to_vec(alloc)?))
 }
 
 fn sizes(alloc: Global, values: &[i128]) -> Result<Line, Fail> {
