@@ -14,7 +14,7 @@ use Rattle.drg_array.specs.ClaimOrder.{IsBefore, ComesBefore, test_number}
 use Rattle.drg_counting.specs.EntryTests.{IsBasic}
 use Rattle.drg_counting.specs.Parity.{IsSelectedParity}
 use Rattle.drg_counting.proofs.ClaimLaws.{later_test, within, one_index, two_indices}
-use Rattle.drg_intersection.specs.Faults.{AllPass, IsFault, IsFirstWide, IsReached, Passes, IsBefore as IsNodeBefore}
+use Rattle.drg_intersection.specs.Faults.{AllPass, IsNumbersFault, IsFirstWide, IsReached, Passes, IsBefore as IsNodeBefore}
 use Rattle.drg_intersection.specs.declared.fault.NumbersFault.TheVariants.{Fall}
 use Rattle.drg_engine.specs.Verdicts.{IsEarlier, IsFirstFailing, IsNodeOf, Runs}
 
@@ -97,7 +97,7 @@ module _ (a : Entries) (no_basic : (claim : Claim) → IsBasic claim → CountsF
   number_first : (tests : List Test) (h i j : ℕ) → IsReached a (P h i j) → CountsFail a (Intersect h i j) → IsFirstFailing a tests (Intersect h i j)
   number_first tests h i j reached fails = record { runs = inl tt; fails = fails; first = λ earlier before runs. before_number h i j reached earlier before }
 
-  pub fall_first : (tests : List Test) (claim : Claim) → IsFault a (Fall claim) → IsFirstFailing a tests claim
+  pub fall_first : (tests : List Test) (claim : Claim) → IsNumbersFault a (Fall claim) → IsFirstFailing a tests claim
   fall_first tests (Size i) fault = size_first tests i fault.reached fault.failed
   fall_first tests (Intersect h i j) fault = number_first tests h i j fault.reached fault.failed
   fall_first tests claim fault = absurd fault

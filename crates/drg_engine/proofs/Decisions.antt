@@ -6,7 +6,6 @@ use Rattle.drg_array.specs.Conditions.{CountsFail, CountsHold}
 use Rattle.drg_array.specs.ConditionLaws.{FailsWhereFalse, HoldsWhereNoneFails}
 use Rattle.drg_array.specs.TestLists.{IsSelection}
 use Rattle.drg_array.specs.declared.claim.Claim.{Claim}
-use Rattle.drg_array.specs.declared.claim.Class.{Class}
 use Rattle.drg_array.specs.declared.claim.Class.TheVariants.{Counting}
 use Rattle.drg_array.specs.declared.node.Node.{Node}
 use Rattle.drg_array.specs.declared.test.Test.{Test}
@@ -14,12 +13,12 @@ use Rattle.drg_array.specs.ClaimOrder.{test_number}
 use Rattle.drg_derivation.specs.Content.{Content}
 use Rattle.drg_derivation.specs.declared.line.Line.{Line}
 use Rattle.drg_graph.specs.NumberLaws.{CountingClaimsLaw}
-use Rattle.drg_intersection.specs.Faults.{AllPass, IsFirstWide, IsFault}
+use Rattle.drg_intersection.specs.Faults.{AllPass, IsFirstWide, IsNumbersFault}
 use Rattle.drg_intersection.specs.Laws.{OneFault, NoFaultWhereAllPass}
 use Rattle.drg_intersection.specs.declared.fault.NumbersFault.TheVariants as fault
 use Rattle.drg_array.specs.declared.claim.Claim.TheVariants.{First, Degree, Order, Cross, Size, Intersect, Handshake, Induced, Triangles}
 use Rattle.drg_counting.specs.EntryTests.{IsBasic}
-use Rattle.drg_intersection.specs.Numbers.{Numbers, AreNumbersOf}
+use Rattle.drg_intersection.specs.Numbers.{AreNumbersOf}
 use Rattle.drg_replay.specs.Answers.{answer_of}
 use Rattle.drg_report.specs.declared.verdict.Cause.TheVariants.{Wide}
 use Rattle.drg_report.specs.declared.verdict.Verdict.{Verdict}
@@ -97,10 +96,10 @@ module _ (one : OneFault) (none : NoFaultWhereAllPass) (a : Entries) (node : Nod
   no_claim basic (Order i) fails made = basic (Order i) (omega arith) fails
   no_claim basic (Cross i j) fails made = basic (Cross i j) (omega arith) fails
   no_claim basic (Size i) fails made =
-      let falls : IsFault a (fault.Fall (Size i)) = record { is_node = fails.0.1; reached = made.reached; fits = made.fits; failed = fails } in
+      let falls : IsNumbersFault a (fault.Fall (Size i)) = record { is_node = fails.0.1; reached = made.reached; fits = made.fits; failed = fails } in
       let same = one a (fault.Wide node) (fault.Fall (Size i)) (λ e. cc) (λ e. cc) wide falls in cc
   no_claim basic (Intersect h i j) fails made =
-      let falls : IsFault a (fault.Fall (Intersect h i j)) = record { is_node = (fails.0, fails.1, fails.2); reached = made.reached; fits = made.fits; failed = fails } in
+      let falls : IsNumbersFault a (fault.Fall (Intersect h i j)) = record { is_node = (fails.0, fails.1, fails.2); reached = made.reached; fits = made.fits; failed = fails } in
       let same = one a (fault.Wide node) (fault.Fall (Intersect h i j)) (λ e. cc) (λ e. cc) wide falls in cc
   no_claim basic (Handshake i) fails made = none a (fault.Wide node) (λ e. cc) made wide
   no_claim basic (Induced i j) fails made = none a (fault.Wide node) (λ e. cc) made wide

@@ -1,33 +1,32 @@
 -- Evidence lines, and lines one after the other.
-use Rattle.std.proofs.Common.{◌≡◌, ℕ, zero, suc, ◌+◌, ◌-◌, ◌*◌, ◌≤◌, ◌<◌, List, [], ◌∷◌, ◌++◌, length, take, drop, append_assoc, sym, subst, ap, ◌∙◌, arith}
+use Rattle.std.proofs.Common.{◌≡◌, ℕ, zero, suc, ◌+◌, ◌-◌, ◌≤◌, List, [], ◌∷◌, ◌++◌, length, append_assoc, sym, subst, ap, ◌∙◌, arith}
 use Rattle.std.specs.Prelude.{ℤ, pos, slice_index_or, ◌==◌}
-use Rattle.std.proofs.lemmas.List.{get_or-take, get_or-drop, length-take, length-drop}
 use Rattle.drg_algebra.specs.Sums.{bit}
-use Rattle.drg_array.specs.Entries.{Entries}
+use Rattle.drg_algebra.specs.Rational.{whole}
+use Rattle.drg_array.specs.Entries.{Entries, diameter}
+use Rattle.drg_array.specs.Numbers.{IsIntersectionNumber}
+use Rattle.drg_intersection.specs.FirstNumbers.{FirstNumbers, AreFirstNumbers, HasRow, IsRowOf, cell}
+use Rattle.drg_intersection.specs.Numbers.{place}
+use Rattle.drg_intersection.proofs.Places.{before_row}
 use Rattle.drg_array.specs.Conditions.{CountsFail}
 use Rattle.drg_array.specs.declared.claim.Claim.TheVariants.{Intersect}
 use Rattle.drg_derivation.specs.declared.line.Line.{Line}
 use Rattle.drg_engine.specs.Lines.{AreLinesOf, AreRowLines, IsRowLine}
 
--- ---- a row of w numbers from place s on
-module _ (xs : List ℤ) (s w : ℕ) where
-  pub length-piece : s + w ≤ length xs → length (take (s + w - s) (drop s xs)) ≡ w
-  length-piece inside = simp (length-take, length-drop) (omega arith)
-
-  pub at-piece : (j : ℕ) → j < w → slice_index_or (take (s + w - s) (drop s xs)) j (pos 0) ≡ slice_index_or xs (s + j) (pos 0)
-  at-piece j h =
-      let low : j < s + w - s = omega arith in
-      get_or-take (s + w - s) (drop s xs) j (pos 0) low ∙ get_or-drop s xs j (pos 0)
-
--- what holds of each number of row i among rows of d + 1 numbers holds of the numbers of the piece
-pub row_is : (d i : ℕ) (rows values : List ℤ) (E : ℕ → ℤ → Type 0) → suc i * (d + 1) ≤ length rows
-    → values ≡ take (i * (d + 1) + (d + 1) - i * (d + 1)) (drop (i * (d + 1)) rows)
-    → ((j : ℕ) → j ≤ d → E j (slice_index_or rows (i * (d + 1) + j) (pos 0)))
-    → (length values ≡ suc d) × ((j : ℕ) → j ≤ d → E j (slice_index_or values j (pos 0)))
-row_is d i rows values E inside same is =
-    let long = length-piece rows (i * (d + 1)) (d + 1) (omega (arith, inside)) in (
-      omega (arith, ap length same, long),
-      (λ j h. subst (E j) (sym (ap (λ xs. slice_index_or xs j (pos 0)) same ∙ at-piece rows (i * (d + 1)) (d + 1) j (omega (arith, h)))) (is j h)),
+-- ---- a row of the numbers in hand is a row of the array
+pub row_is : (a : Entries) (first : FirstNumbers) (h i : ℕ) (row : List ℤ) → h ≤ first.d → i ≤ first.d → HasRow first h i → IsRowOf first h i row → AreFirstNumbers a first
+    → (length row ≡ suc (diameter a)) × ((j : ℕ) → j ≤ diameter a → IsIntersectionNumber a h i j (whole (slice_index_or row j (pos 0))))
+row_is a first h i row hh hi made is are =
+    let same = are.same_d in (
+      is.count ∙ ap suc same,
+      (λ j hj.
+          let D : ℕ → Type 0 = λ d. place d h (suc i) 0 ≤ length first.table in
+          let E : ℕ → Type 0 = λ d. slice_index_or row j (pos 0) ≡ cell d first.table h i j in
+          let made_here = subst D same made in
+          let equal = subst E same (is.entries j (omega (arith, hj, same))) in
+          let inside = before_row (diameter a) h i 0 j hj in
+          subst (λ z. IsIntersectionNumber a h i j (whole z)) (sym equal)
+          (are.entries h i j (omega (arith, hh, same)) (omega (arith, hi, same)) hj (omega (arith, inside, made_here))).is),
     )
 
 -- ---- one more row after m of them

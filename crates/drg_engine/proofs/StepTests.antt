@@ -7,7 +7,7 @@ use Rattle.std.proofs.lemmas.Int.{ints}
 use Rattle.drg_algebra.specs.Rational.{ℚ, whole}
 use Rattle.drg_algebra.proofs.Tests.{decided, both}
 use Rattle.drg_intersection.specs.Fits.{IsInRange}
-use Rattle.drg_intersection.specs.Work as Table
+use Rattle.drg_whole.specs.Sums as Table
 use Rattle.drg_intersection.proofs.Ranges.{range_out}
 use Rattle.drg_replay.specs.Steps.{Step, Holds, Fits, EachHolds, first_failure}
 use Rattle.drg_whole.specs.Range.{in_range}

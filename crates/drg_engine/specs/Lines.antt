@@ -6,6 +6,8 @@ use Rattle.drg_array.specs.Numbers.{size, IsIntersectionNumber}
 use Rattle.drg_array.specs.declared.claim.Claim.{Claim}
 use Rattle.drg_array.specs.declared.claim.Claim.TheVariants.{First, Degree, Order, Cross, Size, Intersect, Handshake, Induced, Triangles}
 use Rattle.drg_derivation.specs.declared.line.Line.{Line}
+use Rattle.drg_intersection.specs.FirstNumbers.{FirstNumbers, IsFull}
+use Rattle.drg_intersection.specs.Numbers.{place}
 use Rattle.drg_derivation.specs.declared.line.Line.TheVariants.{K, P}
 
 -- a `k` line with the first m sizes, k_0 to k_(m-1)
@@ -45,3 +47,12 @@ AreLinesOf a (Handshake i) lines = AreSizesAndRows a i 0 lines
 AreLinesOf a (Induced i j) lines = AreSizesAndRows a i i lines
 AreLinesOf a (Triangles i) lines = AreSizesAndRows a i i lines
 AreLinesOf a claim lines = ⊥
+
+-- The numbers that the lines of the claim state are there, and its indices are those of an array of this diameter.
+abbrev pub HasNumbersOf : FirstNumbers → Claim → Type 0
+HasNumbersOf first (Size i) = i ≤ length first.sizes
+HasNumbersOf first (Intersect h i j) = (h ≤ first.d) × (1 ≤ i) × (i ≤ first.d) × (place first.d h i 0 ≤ length first.table)
+HasNumbersOf first (Handshake i) = IsFull first
+HasNumbersOf first (Induced i j) = (i ≤ first.d) × IsFull first
+HasNumbersOf first (Triangles i) = (i ≤ first.d) × IsFull first
+HasNumbersOf first claim = Unit {0}

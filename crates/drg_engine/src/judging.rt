@@ -8,6 +8,7 @@ ghost use Rattle.drg_array.specs.declared.claim.Claim.{Claim as TheClaim};
 ghost use Rattle.drg_counting.specs.EntryTests.{IsBasic};
 ghost use Rattle.drg_intersection.specs.Faults.{AllPass, IsFirstWide, IsNode};
 ghost use Rattle.drg_intersection.specs.Numbers.{AreNumbersOf};
+ghost use Rattle.drg_engine.specs.Lines.{AreLinesOf};
 ghost use Rattle.drg_engine.specs.Made.{AreMade};
 ghost use Rattle.drg_engine.specs.Verdicts.{IsFirstFailing, IsNodeOf, VerdictHolds};
 
@@ -16,9 +17,9 @@ use crate::passed::{all_tests, tests_before};
 use crate::{acceptance_law, text_law};
 use drg_array::{Array, Claim, Node, Test, TestSet, condition_law};
 use drg_counting::{basic, parity};
-use drg_derivation::Derivation;
+use drg_derivation::{Derivation, Line};
 use drg_graph::counting_claims_law;
-use drg_intersection::{Numbers, NumbersFault, numbers_of};
+use drg_intersection::{Numbers, NumbersFault, numbers_or_before};
 use drg_report::{Cause, Infeasible, Pending, PendingTests, Survivor, Undecided, Verdict};
 use std::alloc::{AllocError, Global};
 
@@ -28,13 +29,18 @@ pub fn judge(alloc: Global, array: &Array, tests: &TestSet) -> Result<Verdict, A
     ensures { IfOk result (VerdictHolds array.now tests.now) }
 {
     if let Some(claim) = basic(array) {
-        return infeasible_by(alloc, array, claim);
+        return Ok(infeasible_by(alloc, array, claim, Vec::new(alloc)));
     }
-    match numbers_of(alloc, array) {
+    match numbers_or_before(alloc, array) {
         Ok(numbers) => judge_numbers(alloc, array, tests, numbers),
-        Err(NumbersFault::Fall { claim }) => infeasible_by(alloc, array, claim),
-        Err(NumbersFault::Wide { node }) => undecided_by(alloc, tests, node),
-        Err(NumbersFault::Memory) => Err(AllocError),
+        Err(shortfall) => match shortfall.fault {
+            NumbersFault::Fall { claim } => {
+                let lines = lines_of(alloc, claim, &shortfall.before)?;
+                Ok(infeasible_by(alloc, array, claim, lines))
+            }
+            NumbersFault::Wide { node } => undecided_by(alloc, tests, node),
+            NumbersFault::Memory => Err(AllocError),
+        },
     }
 }
 
@@ -53,35 +59,35 @@ fn judge_numbers(
     let _ = array.d();
     condition_law();
     if let Some(claim) = parity(&numbers, tests) {
-        return infeasible_by(alloc, array, claim);
+        let lines = lines_of(alloc, claim, numbers.first())?;
+        return Ok(infeasible_by(alloc, array, claim, lines));
     }
     let passed = all_tests(alloc, tests)?;
     Ok(Verdict::Survivor(Survivor { passed, numbers }))
 }
 
-/// The verdict on an array of which this is the first failing claim.
-fn infeasible_by(alloc: Global, array: &Array, claim: Claim) -> Result<Verdict, AllocError>
+/// The verdict on an array of which this is the first failing claim, with the lines that show it.
+fn infeasible_by(alloc: Global, array: &Array, claim: Claim, lines: Vec<Line>) -> Verdict
     requires fails { CountsFail array.now claim }
     requires made { AreMade array.now claim }
-    ensures { IfOk result (λ verdict. (tests : List TheTest) →
-        IsFirstFailing array.now tests claim → VerdictHolds array.now tests verdict) }
+    requires lines { AreLinesOf array.now claim lines.items }
+    ensures { (tests : List TheTest) → IsFirstFailing array.now tests claim → VerdictHolds array.now tests result }
 {
     let _ = array.d();
     acceptance_law();
     text_law();
     condition_law();
     counting_claims_law();
-    let lines = lines_of(alloc, array, claim)?;
     // By the laws, a derivation of these parts has a text, and is accepted.
     let Some(derivation) = Derivation::make(array.copied(), claim, lines) else {
         unreachable!();
     };
-    Ok(Verdict::Infeasible(Infeasible {
+    Verdict::Infeasible(Infeasible {
         claim,
         class: claim.class(),
         derivation,
         pending: PendingTests::new(Vec::new(alloc)),
-    }))
+    })
 }
 
 /// The verdict on an array with a number that is too wide, after others that pass.

@@ -1,113 +1,100 @@
-//! The evidence lines of a claim.
+//! The evidence lines of a claim, from the numbers in hand.
 
-ghost use Rattle.std.specs.Prelude.{◌≡◌, ◌≤◌, ◌<◌, ◌+◌, ◌-◌, ◌*◌, ℕ, suc, pos, List, [], ◌∷◌, ◌++◌, length, slice_index_or, IfOk, OnOk};
-ghost use Rattle.drg_algebra.specs.Rational.{whole};
+ghost use Rattle.std.specs.Prelude.{◌≡◌, ◌≤◌, ◌-◌, suc, List, [], ◌∷◌, ◌++◌, length, IfOk, OnOk};
 ghost use Rattle.drg_array.specs.Conditions.{CountsFail};
-ghost use Rattle.drg_array.specs.Entries.{diameter};
-ghost use Rattle.drg_array.specs.Numbers.{IsIntersectionNumber};
-ghost use Rattle.drg_array.specs.declared.node.Node.TheVariants.{K, P};
+ghost use Rattle.drg_array.specs.Entries.{Entries};
 ghost use Rattle.drg_derivation.specs.declared.line.Line.{Line as TheLine};
-ghost use Rattle.drg_intersection.specs.Faults.{AllPass, IsReached};
-ghost use Rattle.drg_engine.specs.Made.{AreMade};
-ghost use Rattle.drg_engine.specs.Lines.{AreLinesOf, AreRowLines, AreSizesAndRows, IsRowLine, IsSizeLine};
+ghost use Rattle.drg_intersection.specs.FirstNumbers.{AreFirstNumbers, HasRow, IsFull};
+ghost use Rattle.drg_intersection.specs.Numbers.{place};
+ghost use Rattle.drg_engine.specs.Lines.{AreLinesOf, AreRowLines, AreSizesAndRows, HasNumbersOf, IsRowLine, IsSizeLine};
 
-use drg_array::{Array, Claim};
+use drg_array::Claim;
 use drg_derivation::{Line, NumberList};
-use drg_intersection::{rows_before, sizes_before};
+use drg_intersection::FirstNumbers;
 use std::alloc::{AllocError, Global};
 
-/// The lines of a derivation of this claim, which the array fails.
-pub fn lines_of(alloc: Global, array: &Array, claim: Claim) -> Result<Vec<Line>, AllocError>
-    requires fails { CountsFail array.now claim }
-    requires made { AreMade array.now claim }
-    ensures { IfOk result (λ lines. AreLinesOf array.now claim lines.items) }
+/// The lines of a derivation of this claim, from numbers that reach as far as it asks.
+pub fn lines_of(alloc: Global, claim: Claim, first: &FirstNumbers) -> Result<Vec<Line>, AllocError>
+    requires made { HasNumbersOf first.now claim }
+    ensures { IfOk result (λ lines. (a : Entries) → AreFirstNumbers a first.now → CountsFail a claim →
+        AreLinesOf a claim lines.items) }
 {
-    let d = array.d();
     match claim {
-        Claim::Size { i } => size_lines(alloc, array, usize::from(i)),
-        Claim::Intersect { h, i, .. } => row_lines(alloc, array, h, usize::from(i)),
-        Claim::Handshake { .. } => size_lines(alloc, array, d + 1),
-        Claim::Induced { i, .. } | Claim::Triangles { i } => size_and_row_lines(alloc, array, i),
+        Claim::Size { i } => size_lines(alloc, first, usize::from(i)),
+        Claim::Intersect { h, i, .. } => row_lines(alloc, first, h, usize::from(i)),
+        Claim::Handshake { .. } => size_lines(alloc, first, first.d() + 1),
+        Claim::Induced { i, .. } | Claim::Triangles { i } => size_and_row_lines(alloc, first, i),
         _ => Ok(Vec::new(alloc)),
     }
 }
 
 /// One line with the sizes `k_0` to `k_(i-1)`.
-fn size_lines(alloc: Global, array: &Array, i: usize) -> Result<Vec<Line>, AllocError>
-    requires inside { i ≤ suc (diameter array.now) }
-    requires reached { IsReached array.now (K i) }
-    ensures { IfOk result (λ lines.
-        (line : TheLine) × (lines.items ≡ line ∷ []) × IsSizeLine array.now i line) }
+fn size_lines(alloc: Global, first: &FirstNumbers, i: usize) -> Result<Vec<Line>, AllocError>
+    requires { i ≤ length first.now.sizes }
+    ensures { IfOk result (λ lines. (a : Entries) → AreFirstNumbers a first.now →
+        (line : TheLine) × (lines.items ≡ line ∷ []) × IsSizeLine a i line) }
 {
-    let values = NumberList::new(sizes_before(alloc, array, i)?);
+    let values = NumberList::new(Vec::from_slice(alloc, &first.sizes()[..i])?);
     let mut lines = Vec::new(alloc);
     lines.push(Line::K { values })?;
     Ok(lines)
 }
 
 /// The lines with rows 1 to i-1 of h.
-fn row_lines(alloc: Global, array: &Array, h: u8, i: usize) -> Result<Vec<Line>, AllocError>
-    requires h { h ≤ diameter array.now }
+fn row_lines(alloc: Global, first: &FirstNumbers, h: u8, i: usize) -> Result<Vec<Line>, AllocError>
+    requires h { h ≤ first.now.d }
     requires low { 1 ≤ i }
-    requires high { i ≤ suc (diameter array.now) }
-    requires reached { IsReached array.now (P h i 0) }
-    ensures { IfOk result (λ lines. AreRowLines array.now h 1 (i - 1) lines.items) }
+    requires high { i ≤ suc first.now.d }
+    requires made { place first.now.d h i 0 ≤ length first.now.table }
+    ensures { IfOk result (λ lines. (a : Entries) → AreFirstNumbers a first.now →
+        AreRowLines a h 1 (i - 1) lines.items) }
 {
     let mut lines = Vec::new(alloc);
-    push_rows(alloc, array, h, i, &mut lines)?;
+    push_rows(alloc, first, h, i, &mut lines)?;
     Ok(lines)
 }
 
 /// The lines with all sizes and with rows 1 to i of h = i.
-fn size_and_row_lines(alloc: Global, array: &Array, i: u8) -> Result<Vec<Line>, AllocError>
-    requires inside { i ≤ diameter array.now }
-    requires pass { AllPass array.now }
-    ensures { IfOk result (λ lines. AreSizesAndRows array.now i i lines.items) }
+fn size_and_row_lines(alloc: Global, first: &FirstNumbers, i: u8) -> Result<Vec<Line>, AllocError>
+    requires i { i ≤ first.now.d }
+    requires full { IsFull first.now }
+    ensures { IfOk result (λ lines. (a : Entries) → AreFirstNumbers a first.now →
+        AreSizesAndRows a i i lines.items) }
 {
-    let d = array.d();
-    let mut lines = size_lines(alloc, array, d + 1)?;
-    push_rows(alloc, array, i, usize::from(i) + 1, &mut lines)?;
+    let mut lines = size_lines(alloc, first, first.d() + 1)?;
+    push_rows(alloc, first, i, usize::from(i) + 1, &mut lines)?;
     Ok(lines)
 }
 
-/// Appends the lines with rows 1 to i-1 of h.
+/// Appends the lines with rows 1 to i-1 of h. After an error some of them are appended.
 fn push_rows(
     alloc: Global,
-    array: &Array,
+    first: &FirstNumbers,
     h: u8,
     i: usize,
     lines: &mut Vec<Line>,
 ) -> Result<(), AllocError>
-    requires h { h ≤ diameter array.now }
+    requires h { h ≤ first.now.d }
     requires low { 1 ≤ i }
-    requires high { i ≤ suc (diameter array.now) }
-    requires reached { IsReached array.now (P h i 0) }
-    ensures { OnOk result ((rows : List TheLine) × (lines.new.items ≡ lines.old.items ++ rows)
-        × AreRowLines array.now h 1 (i - 1) rows) }
+    requires high { i ≤ suc first.now.d }
+    requires made { place first.now.d h i 0 ≤ length first.now.table }
+    ensures { OnOk result ((a : Entries) → AreFirstNumbers a first.now →
+        (rows : List TheLine) × (lines.new.items ≡ lines.old.items ++ rows) × AreRowLines a h 1 (i - 1) rows) }
 {
-    let rows = rows_before(alloc, array, usize::from(h), i)?;
     'rows: for l in 1..i {
-        lines.push(row_line(alloc, array, h, l, &rows)?)?;
+        lines.push(row_line(alloc, first, h, l)?)?;
     }
     Ok(())
 }
 
-/// The line with row i of h, which stands among these rows.
-fn row_line(
-    alloc: Global,
-    array: &Array,
-    h: u8,
-    i: usize,
-    rows: &[i128],
-) -> Result<Line, AllocError>
-    requires short { i ≤ diameter array.now }
-    requires inside { suc i * (diameter array.now + 1) ≤ length rows.now }
-    requires row { (j : ℕ) → j ≤ diameter array.now → IsIntersectionNumber array.now h i j
-        (whole (slice_index_or rows.now (i * (diameter array.now + 1) + j) (pos 0))) }
-    ensures { IfOk result (IsRowLine array.now h i) }
+/// The line with row i of h.
+fn row_line(alloc: Global, first: &FirstNumbers, h: u8, i: usize) -> Result<Line, AllocError>
+    requires h { h ≤ first.now.d }
+    requires i { i ≤ first.now.d }
+    requires made { HasRow first.now h i }
+    ensures { IfOk result (λ line. (a : Entries) → AreFirstNumbers a first.now → IsRowLine a h i line) }
 {
-    let width = array.d() + 1;
-    let values = Vec::from_slice(alloc, &rows[i * width..i * width + width])?;
+    let values = Vec::from_slice(alloc, first.row(usize::from(h), i))?;
     Ok(Line::P {
         h: i128::from(h),
         i: i as i128,

@@ -1,13 +1,17 @@
--- The first number that fails is one number.
-use Rattle.std.proofs.Common.{◌≡◌, ℕ, zero, suc, ◌<◌, refl, sym, ap, subst, arith, inl, inr}
-use Rattle.std.specs.Prelude.{◌⊎◌}
-use Rattle.drg_array.specs.Entries.{Entries}
+-- The first number that fails is one number, and the numbers of an array are one.
+use Rattle.std.proofs.Common.{◌≡◌, ℕ, zero, suc, ◌<◌, refl, sym, ap, ◌∙◌, subst, arith, inl, inr}
+use Rattle.std.specs.Prelude.{◌⊎◌, ◌≤◌, pos}
+use Rattle.std.proofs.lemmas.Int.{ints}
+use Rattle.drg_algebra.specs.Rational.{whole}
+use Rattle.drg_array.specs.Entries.{Entries, diameter}
+use Rattle.drg_array.proofs.NumberLaws.{one_number}
 use Rattle.drg_array.specs.declared.node.Node.{Node}
 use Rattle.drg_array.specs.declared.node.Node.TheVariants.{K, N, P}
 use Rattle.drg_array.specs.declared.claim.Claim.TheVariants.{Size, Intersect}
-use Rattle.drg_intersection.specs.Faults.{IsNode, IsBefore, Passes, IsReached, IsFault}
+use Rattle.drg_intersection.specs.Faults.{IsNode, IsBefore, Passes, IsReached, IsNumbersFault}
 use Rattle.drg_intersection.specs.Fits.{Fits}
-use Rattle.drg_intersection.specs.Laws.{OneFault, NoFaultWhereAllPass}
+use Rattle.drg_intersection.specs.Laws.{OneFault, NoFaultWhereAllPass, OneTable}
+use Rattle.drg_intersection.proofs.Ranges.{one_whole}
 use Rattle.drg_intersection.specs.declared.fault.NumbersFault.TheVariants.{Fall, Wide, Memory}
 
 compare : (m n : ℕ) → (m < n) ⊎ ((m ≡ n) ⊎ (n < m))
@@ -66,27 +70,17 @@ one_first a x y first second =
       | inr (inr after) ↦ absurd (second.failing (first.reached y second.is_node after))
     ]
 
-first_wide : (a : Entries) (node : Node) → IsFault a (Wide node) → IsFirst a node
+first_wide : (a : Entries) (node : Node) → IsNumbersFault a (Wide node) → IsFirst a node
 first_wide a node f = record { is_node = f.is_node; reached = f.reached; failing = λ p. f.wide p.fits }
 
-first_size : (a : Entries) (i : ℕ) → IsFault a (Fall (Size i)) → IsFirst a (K i)
+first_size : (a : Entries) (i : ℕ) → IsNumbersFault a (Fall (Size i)) → IsFirst a (K i)
 first_size a i f = record { is_node = f.is_node; reached = f.reached; failing = λ p. f.failed.1 p.right }
 
-first_entry : (a : Entries) (h i j : ℕ) → IsFault a (Fall (Intersect h i j)) → IsFirst a (P h i j)
+first_entry : (a : Entries) (h i j : ℕ) → IsNumbersFault a (Fall (Intersect h i j)) → IsFirst a (P h i j)
 first_entry a h i j f = (let (hh, hi, hj, x, is, failed) = f.failed in record { is_node = f.is_node; reached = f.reached; failing = λ p. failed (p.right x is) })
 
 apart : (a : Entries) (x y : Node) → x ≡ y → ¬ Fits a x → Fits a y → ⊥
 apart a x y e wide fits = wide (subst (Fits a) (sym e) fits)
-
--- what fails doesn't pass
-pub wide_fails : (a : Entries) (x y : Node) → IsFault a (Wide x) → x ≡ y → ¬ Passes a y
-wide_fails a x y f e = subst (λ t. ¬ Passes a t) e (first_wide a x f).failing
-
-pub size_fails : (a : Entries) (i j : ℕ) → IsFault a (Fall (Size i)) → i ≡ j → ¬ Passes a (K j)
-size_fails a i j f e = subst (λ t. ¬ Passes a (K t)) e (first_size a i f).failing
-
-pub entry_fails : (a : Entries) (h i j n : ℕ) → IsFault a (Fall (Intersect h i j)) → i ≡ n → ¬ Passes a (P h n j)
-entry_fails a h i j n f e = subst (λ t. ¬ Passes a (P h t j)) e (first_entry a h i j f).failing
 
 pub one_fault : OneFault
 one_fault a Memory g nf ng f h = absurd (nf refl)
@@ -111,3 +105,19 @@ no_fault a (Wide x) nf pass f = f.wide (pass x f.is_node).fits
 no_fault a (Fall (Size i)) nf pass f = f.failed.1 (pass (K i) f.is_node).right
 no_fault a (Fall (Intersect h i j)) nf pass f = (let (hh, hi, hj, x, is, failed) = f.failed in failed ((pass (P h i j) f.is_node).right x is))
 no_fault a (Fall claim) nf pass f = absurd f
+
+-- ---- the numbers are one
+same_natural : (m n : ℕ) → whole (pos m) ≡ whole (pos n) → m ≡ n
+same_natural m n e = (let f = one_whole (pos m) (pos n) e in omega (arith, ints, f))
+
+pub one_table : OneTable
+one_table a x y array first second = record {
+  d = first.same_d ∙ sym second.same_d;
+  sizes = λ i hi. (let h = first.same_d in
+      same_natural _ _ (sym (first.sizes i (omega (arith, hi, h))) ∙ second.sizes i (omega (arith, hi, h))));
+  vertices = same_natural _ _ (sym first.vertices ∙ second.vertices);
+  intersections = λ h i j hh hi hj. (let e = first.same_d in
+      let row : i ≤ diameter a = omega (arith, hi, e) in
+      let column : j ≤ diameter a = omega (arith, hj, e) in
+      same_natural _ _ (one_number a h i j _ _ array row column (first.intersections h i j (omega (arith, hh, e)) row column) (second.intersections h i j (omega (arith, hh, e)) row column)));
+}

@@ -4,6 +4,5 @@ pub mod Reached
 pub mod Rows
 pub mod SizeLaws
 pub mod Filling
-pub mod Quotients
 pub mod Views
 pub mod FaultLaws

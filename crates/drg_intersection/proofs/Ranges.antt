@@ -8,8 +8,9 @@ use Rattle.drg_algebra.specs.Rational.{ℚ, pairs, cross_prop, whole, plus}
 use Rattle.drg_algebra.proofs.Maps.{whole_map}
 use Rattle.drg_algebra.proofs.Tests.{decided, both}
 use Rattle.drg_array.specs.Numbers.{IsWhole, IsNatural}
+use Rattle.drg_whole.specs.Range.{in_range}
+use Rattle.drg_whole.specs.Sums.{sum_fits_from}
 use Rattle.drg_intersection.specs.Fits.{IsInRange, SumFits}
-use Rattle.drg_intersection.specs.Work.{in_range, sum_fits_from}
 
 pub one_whole : (x y : ℤ) → whole x ≡ whole y → x ≡ y
 one_whole x y e = let cross : x *ℤ pos 1 ≡ y *ℤ pos 1 = exact pairs cross_prop e in omega (arith, ints)

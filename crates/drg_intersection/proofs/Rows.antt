@@ -15,10 +15,13 @@ use Rattle.drg_array.specs.declared.node.Node.TheVariants.{P}
 use Rattle.drg_array.specs.declared.claim.Claim.TheVariants.{Intersect}
 use Rattle.drg_array.proofs.EntryLemmas.{c-positive, c-end}
 use Rattle.drg_array.proofs.NumberLaws.{numbers_exist, one_number, cancel-whole}
+use Rattle.drg_whole.specs.Sums.{sum_from, sum_fits_from, products_of}
+use Rattle.drg_intersection.specs.Faults.{Passes, IsReached, IsNumbersFault}
+use Rattle.drg_intersection.specs.FirstNumbers.{AreCells, IsCellAt, cell}
 use Rattle.drg_intersection.specs.Fits.{Fits, SumFits, products}
-use Rattle.drg_intersection.specs.Work.{sum_from, sum_fits_from, products_of}
 use Rattle.drg_intersection.specs.Numbers.{place}
-use Rattle.drg_intersection.specs.Table.{AreEntries, cell, term_before, term_above, balance}
+use Rattle.drg_intersection.specs.Table.{term_before, term_above, balance}
+use Rattle.drg_intersection.specs.declared.fault.NumbersFault.TheVariants.{Fall, Wide}
 use Rattle.drg_intersection.proofs.Ranges.{one_whole, natural, sum_in, sum_out}
 use Rattle.drg_intersection.proofs.Places.{before_row, before_above}
 
@@ -44,14 +47,14 @@ pub negative_is : (x y : ℤ) (z : ℚ) → z ≡ whole y → minus (times (whol
 negative_is x y z e = ap minus (product_is x y z e) ∙ (sym (whole_map.minus (x *ℤ y)) ∙ ap whole (sym (less_product x y)))
 
 module _ (a : Entries) (p : List ℤ) (h i j : ℕ) (array : IsArray a) (hh : h ≤ diameter a) (hi : i < diameter a) (hj : j ≤ diameter a)
-    (long : length p ≡ place (diameter a) h (suc i) j) (entries : AreEntries a p) where
+    (long : length p ≡ place (diameter a) h (suc i) j) (cells : AreCells a p) where
   -- the sum of the terms
   abbrev made : ℤ
   made = sum_from (pos 0) (products_of (balance a p h i j))
 
   module _ (q : ℕ → ℕ → ℚ) (qs : AreIntersectionNumbers a h q) where
     known : (m l : ℕ) → m ≤ diameter a → l ≤ diameter a → place (diameter a) h m l < place (diameter a) h (suc i) j → q m l ≡ whole (cell (diameter a) p h m l)
-    known m l hm hl less = one_number a h m l (q m l) _ array hm hl (q, qs, refl) (entries h m l hh hm hl (subst (λ n. place (diameter a) h m l < n) (sym long) less)).0
+    known m l hm hl less = one_number a h m l (q m l) _ array hm hl (q, qs, refl) (cells h m l hh hm hl (subst (λ n. place (diameter a) h m l < n) (sym long) less)).is
 
     here : (l : ℕ) → l ≤ diameter a → q i l ≡ whole (cell (diameter a) p h i l)
     here l hl = known i l (omega arith) hl (before_row (diameter a) h i j l hl)
@@ -100,30 +103,50 @@ module _ (a : Entries) (p : List ℤ) (h i j : ℕ) (array : IsArray a) (hh : h 
     entry_is : (x : ℤ) → pos (c_at a (suc i)) *ℤ x ≡ made → q (suc i) j ≡ whole x
     entry_is x e = cancel-whole (c_at a (suc i)) _ _ (c-positive a i array hi) (meet ∙ (ap whole (sym e) ∙ whole_map.times (pos (c_at a (suc i))) x))
 
-  pub fits : sum_fits_from (pos 0) (products_of (balance a p h i j)) ≡ true → Fits a (P h (suc i) j)
+  fits : sum_fits_from (pos 0) (products_of (balance a p h i j)) ≡ true → Fits a (P h (suc i) j)
   fits e q qs = let Q : List ℚ → Type 0 = λ xs. SumFits (whole (pos 0)) xs in subst Q (sym (products_are q qs)) (sum_in (pos 0) _ e)
 
-  pub wide : sum_fits_from (pos 0) (products_of (balance a p h i j)) ≡ false → ¬ Fits a (P h (suc i) j)
+  wide : sum_fits_from (pos 0) (products_of (balance a p h i j)) ≡ false → ¬ Fits a (P h (suc i) j)
   wide e f =
       let (q, qs) = numbers_exist a h array in
       let Q : List ℚ → Type 0 = λ xs. SumFits (whole (pos 0)) xs in
       let yes = sum_out (pos 0) _ (subst Q (products_are q qs) (f q qs)) in
       cc
 
-  pub number : (x : ℤ) → pos (c_at a (suc i)) *ℤ x ≡ made → IsIntersectionNumber a h (suc i) j (whole x)
+  number : (x : ℤ) → pos (c_at a (suc i)) *ℤ x ≡ made → IsIntersectionNumber a h (suc i) j (whole x)
   number x e = let (q, qs) = numbers_exist a h array in (q, qs, entry_is q qs x e)
 
-  pub right : (x : ℤ) → pos (c_at a (suc i)) *ℤ x ≡ made → pos 0 ≤ℤ x → (y : ℚ) → IsIntersectionNumber a h (suc i) j y → IsNatural y
-  right x e above y is = subst IsNatural (one_number a h (suc i) j (whole x) y array hi hj (number x e) is) (natural x above)
-
-  pub negative : (x : ℤ) → pos (c_at a (suc i)) *ℤ x ≡ made → x <ℤ pos 0 → CountsFail a (Intersect h (suc i) j)
-  negative x e below = (hh, hi, hj, whole x, number x e, λ (m, f). (let same = one_whole x (pos m) f in omega (arith, ints, same, below)))
-
-  pub no_number : ((x : ℤ) → pos (c_at a (suc i)) *ℤ x ≡ made → ⊥) → CountsFail a (Intersect h (suc i) j)
+  no_number : ((x : ℤ) → pos (c_at a (suc i)) *ℤ x ≡ made → ⊥) → CountsFail a (Intersect h (suc i) j)
   no_number never =
       let (q, qs) = numbers_exist a h array in
       (hh, hi, hj, q (suc i) j, (q, qs, refl), λ (m, f). never (pos m) (one_whole _ _ (whole_map.times (pos (c_at a (suc i))) (pos m) ∙ (ap (times (whole (pos (c_at a (suc i))))) (sym f) ∙ meet q qs))))
 
--- row 0 is given
-pub start_is : (a : Entries) (h j : ℕ) → IsArray a → j ≤ diameter a → IsIntersectionNumber a h 0 j (whole (pos (bit (j == h))))
-start_is a h j array hj = let (q, qs) = numbers_exist a h array in (q, qs, qs.start j hj)
+  pub cell_next : (x : ℤ) → pos (c_at a (suc i)) *ℤ x ≡ made → pos 0 ≤ℤ x → IsCellAt a h (suc i) j x
+  cell_next x e above = record { is = number x e; natural = above }
+
+  pub cell_passes : (x : ℤ) → sum_fits_from (pos 0) (products_of (balance a p h i j)) ≡ true → pos (c_at a (suc i)) *ℤ x ≡ made → pos 0 ≤ℤ x → Passes a (P h (suc i) j)
+  cell_passes x within e above = record {
+    fits = fits within;
+    right = λ y is. subst IsNatural (one_number a h (suc i) j (whole x) y array hi hj (number x e) is) (natural x above);
+  }
+
+  module _ (reached : IsReached a (P h (suc i) j)) where
+    pub cell_wide : sum_fits_from (pos 0) (products_of (balance a p h i j)) ≡ false → IsNumbersFault a (Wide (P h (suc i) j))
+    cell_wide outside = record { is_node = (hh, hi, hj); reached = reached; wide = wide outside }
+
+    pub cell_negative : (x : ℤ) → sum_fits_from (pos 0) (products_of (balance a p h i j)) ≡ true → pos (c_at a (suc i)) *ℤ x ≡ made → x <ℤ pos 0
+        → IsNumbersFault a (Fall (Intersect h (suc i) j))
+    cell_negative x within e below = record {
+      is_node = (hh, hi, hj);
+      reached = reached;
+      fits = fits within;
+      failed = (hh, hi, hj, whole x, number x e, λ (m, f). (let same = one_whole x (pos m) f in omega (arith, ints, same, below)));
+    }
+
+    pub cell_falls : sum_fits_from (pos 0) (products_of (balance a p h i j)) ≡ true → ((x : ℤ) → pos (c_at a (suc i)) *ℤ x ≡ made → ⊥)
+        → IsNumbersFault a (Fall (Intersect h (suc i) j))
+    cell_falls within never = record { is_node = (hh, hi, hj); reached = reached; fits = fits within; failed = no_number never }
+
+-- Row 0 is given.
+pub start_cell : (a : Entries) (h j : ℕ) → IsArray a → j ≤ diameter a → IsCellAt a h 0 j (pos (bit (j == h)))
+start_cell a h j array hj = (let (q, qs) = numbers_exist a h array in record { is = (q, qs, qs.start j hj); natural = omega (arith, ints) })

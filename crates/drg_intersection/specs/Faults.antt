@@ -1,5 +1,5 @@
 -- Which number of an array is the first that fails, in the order k 0 to k d, n, then p h i j by h, i and j.
-use Rattle.std.specs.Prelude.{◌≡◌, ◌≤◌, ◌<◌, ◌⊎◌}
+use Rattle.std.specs.Prelude.{◌≡◌, ◌≤◌, ◌<◌, ◌⊎◌, Option, Some, None, IfSome}
 use Rattle.drg_algebra.specs.Rational.{ℚ}
 use Rattle.drg_array.specs.Entries.{Entries, diameter}
 use Rattle.drg_array.specs.Numbers.{size, vertex_count, IsIntersectionNumber, IsWhole, IsNatural}
@@ -7,6 +7,7 @@ use Rattle.drg_array.specs.Conditions.{CountsFail}
 use Rattle.drg_array.specs.declared.node.Node.{Node}
 use Rattle.drg_array.specs.declared.node.Node.TheVariants.{K, N, P}
 use Rattle.drg_array.specs.declared.claim.Claim.TheVariants.{Size, Intersect}
+use Rattle.drg_intersection.specs.FirstNumbers.{FirstNumbers, AreFirstNumbers, EndBefore}
 use Rattle.drg_intersection.specs.Fits.{Fits}
 use Rattle.drg_intersection.specs.declared.fault.NumbersFault.{NumbersFault}
 use Rattle.drg_intersection.specs.declared.fault.NumbersFault.TheVariants.{Fall, Wide, Memory}
@@ -60,10 +61,23 @@ pub record IsFirstFall (a : Entries) (node : Node) (fails : Type 0) : Type 0 whe
   pub fits : Fits a node
   pub failed : fails
 
--- the cause of a fault
-abbrev pub IsFault : Entries → NumbersFault → Type 0
-IsFault a (Wide node) = IsFirstWide a node
-IsFault a (Fall (Size i)) = IsFirstFall a (K i) (CountsFail a (Size i))
-IsFault a (Fall (Intersect h i j)) = IsFirstFall a (P h i j) (CountsFail a (Intersect h i j))
-IsFault a (Fall claim) = ⊥
-IsFault a Memory = Unit {0}
+-- The cause of a fault.
+abbrev pub IsNumbersFault : Entries → NumbersFault → Type 0
+IsNumbersFault a (Wide node) = IsFirstWide a node
+IsNumbersFault a (Fall (Size i)) = IsFirstFall a (K i) (CountsFail a (Size i))
+IsNumbersFault a (Fall (Intersect h i j)) = IsFirstFall a (P h i j) (CountsFail a (Intersect h i j))
+IsNumbersFault a (Fall claim) = ⊥
+IsNumbersFault a Memory = Unit {0}
+
+-- The number that a fault names. Want of memory names none.
+abbrev pub failing_node : NumbersFault → Option Node
+failing_node (Wide node) = Some node
+failing_node (Fall (Size i)) = Some (K i)
+failing_node (Fall (Intersect h i j)) = Some (P h i j)
+failing_node (Fall claim) = None
+failing_node Memory = None
+
+-- The numbers are all those before the one that the fault names.
+pub record AreBefore (a : Entries) (fault : NumbersFault) (first : FirstNumbers) : Type 0 where
+  pub are : AreFirstNumbers a first
+  pub end : IfSome (failing_node fault) (EndBefore first)

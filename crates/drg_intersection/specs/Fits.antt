@@ -1,16 +1,17 @@
 -- When the formula of a size, of the number of vertices or of an intersection number fits: no product and no sum of it
 -- is above 2^127 - 1 in magnitude. A quotient by an entry is never above its dividend, so it asks nothing more.
-use Rattle.std.specs.Prelude.{◌≡◌, ℕ, ℤ, zero, suc, ◌≤◌, ◌<◌, ◌^◌, pos, unsigned_abs, List, [], ◌∷◌}
+use Rattle.std.specs.Prelude.{◌≡◌, ℕ, ℤ, zero, suc, ◌≤◌, pos, List, [], ◌∷◌}
 use Rattle.drg_algebra.specs.Rational.{ℚ, whole, plus, times, minus}
 use Rattle.drg_algebra.specs.Tables.{total}
 use Rattle.drg_array.specs.Entries.{Entries, diameter, b_at, c_at, a_at}
 use Rattle.drg_array.specs.Numbers.{size, before, AreIntersectionNumbers}
 use Rattle.drg_array.specs.declared.node.Node.{Node}
 use Rattle.drg_array.specs.declared.node.Node.TheVariants.{K, N, P}
+use Rattle.drg_whole.specs.Range.{InRange}
 
--- x is a whole number from -(2^127 - 1) to 2^127 - 1
+-- The rational x is a whole number from -(2^127 - 1) to 2^127 - 1.
 abbrev pub IsInRange : ℚ → Type 0
-IsInRange x = (z : ℤ) × (x ≡ whole z) × (unsigned_abs z < 2 ^ 127)
+IsInRange x = (z : ℤ) × (x ≡ whole z) × InRange z
 
 -- the numbers, and the sums that come of adding them to a total from left to right, are in range
 abbrev pub SumFits : ℚ → List ℚ → Type 0

@@ -1,6 +1,6 @@
 pub mod Numbers
+pub mod FirstNumbers
 pub mod Fits
 pub mod Faults
-pub mod Work
 pub mod Table
 pub mod Laws

@@ -13,23 +13,23 @@ pub record Numbers : Type 0 where
   pub vertices : ℤ
   pub table : List ℤ
 
--- where p^h_ij stands
+-- The place of p^h_ij in a list by h, i and j.
 abbrev pub place : ℕ → ℕ → ℕ → ℕ → ℕ
 place d h i j = (h * (d + 1) + i) * (d + 1) + j
 
--- k_i
+-- The size k_i.
 abbrev pub k_at : Numbers → ℕ → ℕ
 k_at numbers i = unsigned_abs (slice_index_or numbers.sizes i (pos 0))
 
--- n
+-- The number of vertices.
 abbrev pub n_of : Numbers → ℕ
 n_of numbers = unsigned_abs numbers.vertices
 
--- p^h_ij
+-- The intersection number p^h_ij.
 abbrev pub p_at : Numbers → ℕ → ℕ → ℕ → ℕ
 p_at numbers h i j = unsigned_abs (slice_index_or numbers.table (place numbers.d h i j) (pos 0))
 
--- these are the numbers of the array
+-- These are the numbers of the array.
 pub record AreNumbersOf (a : Entries) (numbers : Numbers) : Type 0 where
   pub same_d : numbers.d ≡ diameter a
   pub sizes : (i : ℕ) → i ≤ diameter a → size a i ≡ whole (pos (k_at numbers i))

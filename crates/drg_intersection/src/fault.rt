@@ -4,7 +4,7 @@ ghost use Rattle.std.specs.Prelude.{◌≡◌};
 ghost use Rattle.drg_intersection.specs.declared.fault.NumbersFault.TheVariants.{Memory};
 
 use drg_array::{Claim, Node};
-use std::alloc::AllocFailed;
+use std::alloc::{AllocError, AllocFailed};
 
 /// Why an array has no table of numbers.
 #[derive(Clone, Copy, Debug, PartialEq, Eq)]
@@ -21,6 +21,14 @@ impl<T: Drop> From<AllocFailed<T>> for NumbersFault {
     ghost from_gives = { λ _ fault. fault ≡ Memory };
 
     fn from(_failed: AllocFailed<T>) -> NumbersFault {
+        NumbersFault::Memory
+    }
+}
+
+impl From<AllocError> for NumbersFault {
+    ghost from_gives = { λ _ fault. fault ≡ Memory };
+
+    fn from(_error: AllocError) -> NumbersFault {
         NumbersFault::Memory
     }
 }

@@ -1,151 +1,170 @@
-//! The table of intersection numbers, entry by entry.
+//! The table of intersection numbers, one after the other.
 
-ghost use Rattle.std.specs.Prelude.{◌≡◌, ◌≤◌, ◌<◌, ◌+◌, suc, pos, ◌≤ℤ◌, length, IfOk, IfErr};
-ghost use Rattle.drg_algebra.specs.Rational.{whole};
-ghost use Rattle.drg_array.specs.Entries.{diameter};
-ghost use Rattle.drg_array.specs.Numbers.{IsIntersectionNumber};
+ghost use Rattle.std.specs.Prelude.{◌≡◌, ◌≤◌, ◌<◌, ◌==◌, suc, pos, [], length, Some, IfOk, IfErr, OnOk, IfSome};
+ghost use Rattle.drg_algebra.specs.Sums.{bit};
+ghost use Rattle.drg_array.specs.Entries.{IsArray, diameter};
 ghost use Rattle.drg_array.specs.declared.node.Node.TheVariants.{P};
-ghost use Rattle.drg_intersection.specs.Faults.{IsReached, IsFault, Passes};
+ghost use Rattle.drg_whole.specs.Range.{Gives};
+ghost use Rattle.drg_whole.specs.Sums.{products_of, sum_fits_from, sum_from};
+ghost use Rattle.drg_whole.specs.Whole.{value_of};
+ghost use Rattle.drg_intersection.specs.Faults.{IsReached, IsNumbersFault, Passes, failing_node};
+ghost use Rattle.drg_intersection.specs.FirstNumbers.{AreCells, IsCellAt, TableEndsBefore};
 ghost use Rattle.drg_intersection.specs.Numbers.{place};
-ghost use Rattle.drg_intersection.specs.Table.{AreEntries};
-ghost use Rattle.drg_intersection.specs.declared.fault.NumbersFault.TheVariants.{Memory};
+ghost use Rattle.drg_intersection.specs.Table.{balance as the_balance};
 
 use crate::fault::NumbersFault;
-use crate::terms::balance;
-use crate::work::{quotient, sum_onto};
+use crate::terms::{balance, divisor, index};
 use drg_array::{Array, Claim, Node};
-use std::alloc::Global;
+use drg_whole::{Whole, Wide, sum_onto};
 
-/// p^h_(i+1),j, after all entries before it.
-fn next_entry(array: &Array, p: &[i128], h: usize, i: usize, j: usize) -> Result<i128, NumbersFault>
+/// The sum of the balance equation for row i+1, at j.
+fn numerator(array: &Array, p: &[i128], h: usize, i: usize, j: usize) -> Result<Whole, Wide>
+    requires array { IsArray array.now }
+    requires h { h ≤ diameter array.now }
+    requires i { i ≤ diameter array.now }
+    requires j { j ≤ diameter array.now }
+    ensures { Gives value_of result
+        (sum_fits_from (pos 0) (products_of (the_balance array.now p.now h i j)))
+        (sum_from (pos 0) (products_of (the_balance array.now p.now h i j))) }
+{
+    sum_onto(Whole::new(0), &balance(array, p, h, i, j))
+}
+
+/// p^h_(i+1),j, after all numbers before it.
+fn next_number(
+    array: &Array,
+    p: &[i128],
+    h: usize,
+    i: usize,
+    j: usize,
+) -> Result<Whole, NumbersFault>
+    requires array { IsArray array.now }
     requires h { h ≤ diameter array.now }
     requires i { i < diameter array.now }
     requires j { j ≤ diameter array.now }
     requires length { length p.now ≡ place (diameter array.now) h (suc i) j }
-    requires entries { AreEntries array.now p.now }
+    requires cells { AreCells array.now p.now }
     requires reached { IsReached array.now (P h (suc i) j) }
-    ensures entry { IfOk result (λ x. IsIntersectionNumber array.now h (suc i) j (whole x)) }
-    ensures natural { IfOk result (λ x. pos 0 ≤ℤ x) }
+    ensures cell { IfOk result (λ x. IsCellAt array.now h (suc i) j x.value) }
     ensures passes { IfOk result (λ x. Passes array.now (P h (suc i) j)) }
-    ensures fault { IfErr result (IsFault array.now) }
-    ensures failing { IfErr result (λ fault. ¬ Passes array.now (P h (suc i) j)) }
+    ensures fault { IfErr result (IsNumbersFault array.now) }
+    ensures node { IfErr result (λ fault. failing_node fault ≡ Some (P h (suc i) j)) }
 {
-    let _ = array.d();
-    let (h_index, i_index, j_index) = (h as u8, (i + 1) as u8, j as u8);
-    let Some(numerator) = sum_onto(0, &balance(array, p, h, i, j)) else {
+    let (h_index, i_next, j_index) = (index(array, h), index(array, i + 1), index(array, j));
+    let Ok(numerator) = numerator(array, p, h, i, j) else {
         return Err(NumbersFault::Wide {
             node: Node::P {
                 h: h_index,
-                i: i_index,
+                i: i_next,
                 j: j_index,
             },
         });
     };
-    match quotient(numerator, array.c(i + 1)) {
-        Some(x) if x >= 0 => Ok(x),
+    match numerator.whole_quotient(divisor(array, i)) {
+        Some(x) if x.value >= 0 => Ok(x),
         _ => Err(NumbersFault::Fall {
             claim: Claim::Intersect {
                 h: h_index,
-                i: i_index,
+                i: i_next,
                 j: j_index,
             },
         }),
     }
 }
 
-/// p^h_ij, after all entries before it.
-fn entry(array: &Array, p: &[i128], h: usize, i: usize, j: usize) -> Result<i128, NumbersFault>
+/// p^h_0j.
+fn first_number(h: usize, j: usize) -> Whole
+    ensures { result.value ≡ pos (bit (j == h)) }
+{
+    if j == h { Whole::new(1) } else { Whole::new(0) }
+}
+
+/// p^h_ij, after all numbers before it.
+fn number_after(
+    array: &Array,
+    p: &[i128],
+    h: usize,
+    i: usize,
+    j: usize,
+) -> Result<Whole, NumbersFault>
+    requires array { IsArray array.now }
     requires h { h ≤ diameter array.now }
     requires i { i ≤ diameter array.now }
     requires j { j ≤ diameter array.now }
     requires length { length p.now ≡ place (diameter array.now) h i j }
-    requires entries { AreEntries array.now p.now }
+    requires cells { AreCells array.now p.now }
     requires reached { IsReached array.now (P h i j) }
-    ensures entry { IfOk result (λ x. IsIntersectionNumber array.now h i j (whole x)) }
-    ensures natural { IfOk result (λ x. pos 0 ≤ℤ x) }
+    ensures cell { IfOk result (λ x. IsCellAt array.now h i j x.value) }
     ensures passes { IfOk result (λ x. Passes array.now (P h i j)) }
-    ensures fault { IfErr result (IsFault array.now) }
-    ensures failing { IfErr result (λ fault. ¬ Passes array.now (P h i j)) }
+    ensures fault { IfErr result (IsNumbersFault array.now) }
+    ensures node { IfErr result (λ fault. failing_node fault ≡ Some (P h i j)) }
 {
-    let _ = array.d();
     if i == 0 {
-        return Ok(if j == h { 1 } else { 0 });
+        return Ok(first_number(h, j));
     }
-    next_entry(array, p, h, i - 1, j)
+    next_number(array, p, h, i - 1, j)
 }
 
-/// Appends p^h_i0 to p^h_id. Want of memory is the only fault where none of them fails.
+/// Appends p^h_i0 to p^h_id. After an error those before the fault are appended.
 fn fill_row(array: &Array, p: &mut Vec<i128>, h: usize, i: usize) -> Result<(), NumbersFault>
+    requires array { IsArray array.now }
     requires h { h ≤ diameter array.now }
     requires i { i ≤ diameter array.now }
     requires length { length p.old.items ≡ place (diameter array.now) h i 0 }
-    requires entries { AreEntries array.now p.old.items }
+    requires cells { AreCells array.now p.old.items }
     requires reached { IsReached array.now (P h i 0) }
-    ensures length { IfOk result (λ u. length p.new.items ≡ place (diameter array.now) h (suc i) 0) }
-    ensures entries { IfOk result (λ u. AreEntries array.now p.new.items) }
-    ensures reached { IfOk result (λ u. IsReached array.now (P h (suc i) 0)) }
-    ensures fault { IfErr result (IsFault array.now) }
-    ensures memory { IfErr result (λ fault. IsReached array.now (P h (suc i) 0) → fault ≡ Memory) }
+    ensures length { OnOk result (length p.new.items ≡ place (diameter array.now) h (suc i) 0) }
+    ensures cells { AreCells array.now p.new.items }
+    ensures reached { OnOk result (IsReached array.now (P h (suc i) 0)) }
+    ensures fault { IfErr result (IsNumbersFault array.now) }
+    ensures end { IfErr result (λ fault.
+        IfSome (failing_node fault) (TableEndsBefore (diameter array.now) p.new.items)) }
 {
     'row: for j in 0..array.d() + 1 {
-        let x = entry(array, p, h, i, j)?;
-        p.push(x)?;
+        let x = number_after(array, p, h, i, j)?;
+        p.push(x.value)?;
     }
     Ok(())
 }
 
-/// Appends the rows 0 to count-1 with upper index h. Want of memory is the only fault where no number in
-/// them fails.
-fn fill_rows(array: &Array, p: &mut Vec<i128>, h: usize, count: usize) -> Result<(), NumbersFault>
+/// Appends the rows with upper index h. After an error the numbers before the fault are appended.
+fn fill_rows(array: &Array, p: &mut Vec<i128>, h: usize) -> Result<(), NumbersFault>
+    requires array { IsArray array.now }
     requires h { h ≤ diameter array.now }
-    requires inside { count ≤ suc (diameter array.now) }
     requires length { length p.old.items ≡ place (diameter array.now) h 0 0 }
-    requires entries { AreEntries array.now p.old.items }
+    requires cells { AreCells array.now p.old.items }
     requires reached { IsReached array.now (P h 0 0) }
-    ensures length { IfOk result (λ u. length p.new.items ≡ place (diameter array.now) h count 0) }
-    ensures entries { IfOk result (λ u. AreEntries array.now p.new.items) }
-    ensures reached { IfOk result (λ u. IsReached array.now (P h count 0)) }
-    ensures fault { IfErr result (IsFault array.now) }
-    ensures memory { IfErr result (λ fault. IsReached array.now (P h count 0) → fault ≡ Memory) }
+    ensures length { OnOk result (length p.new.items ≡ place (diameter array.now) (suc h) 0 0) }
+    ensures cells { AreCells array.now p.new.items }
+    ensures reached { OnOk result (IsReached array.now (P (suc h) 0 0)) }
+    ensures fault { IfErr result (IsNumbersFault array.now) }
+    ensures end { IfErr result (λ fault.
+        IfSome (failing_node fault) (TableEndsBefore (diameter array.now) p.new.items)) }
 {
-    'rows: for i in 0..count {
+    'rows: for i in 0..array.d() + 1 {
         fill_row(array, p, h, i)?;
     }
     Ok(())
 }
 
-/// The intersection numbers by h, i and j up to row i-1 with upper index h. Want of memory is the only
-/// fault where none of them fails.
-pub fn table_before(
-    alloc: Global,
-    array: &Array,
-    h: usize,
-    i: usize,
-) -> Result<Vec<i128>, NumbersFault>
-    requires h { h ≤ diameter array.now }
-    requires inside { i ≤ suc (diameter array.now) }
+/// Appends all intersection numbers, by h, i and j, to no number. After an error those before the fault
+/// are appended.
+pub fn fill_table(array: &Array, p: &mut Vec<i128>) -> Result<(), NumbersFault>
+    requires array { IsArray array.now }
+    requires empty { p.old.items ≡ [] }
     requires reached { IsReached array.now (P 0 0 0) }
-    ensures length { IfOk result (λ p. length p.items ≡ place (diameter array.now) h i 0) }
-    ensures entries { IfOk result (λ p. AreEntries array.now p.items) }
-    ensures reached { IfOk result (λ p. IsReached array.now (P h i 0)) }
-    ensures fault { IfErr result (IsFault array.now) }
-    ensures memory { IfErr result (λ fault. IsReached array.now (P h i 0) → fault ≡ Memory) }
+    ensures length { OnOk result (length p.new.items ≡
+        place (diameter array.now) (suc (diameter array.now)) 0 0) }
+    ensures cells { AreCells array.now p.new.items }
+    ensures reached { OnOk result (IsReached array.now (P (suc (diameter array.now)) 0 0)) }
+    ensures fault { IfErr result (IsNumbersFault array.now) }
+    ensures end { IfErr result (λ fault.
+        IfSome (failing_node fault) (TableEndsBefore (diameter array.now) p.new.items)) }
 {
-    let mut p = Vec::new(alloc);
-    'table: for l in 0..h {
-        fill_rows(array, &mut p, l, array.d() + 1)?;
+    let side = array.d() + 1;
+    p.reserve(side * side * side)?;
+    'table: for h in 0..side {
+        fill_rows(array, p, h)?;
     }
-    fill_rows(array, &mut p, h, i)?;
-    Ok(p)
-}
-
-/// The table of all intersection numbers, by h, i and j.
-pub fn table_of(alloc: Global, array: &Array) -> Result<Vec<i128>, NumbersFault>
-    requires reached { IsReached array.now (P 0 0 0) }
-    ensures length { IfOk result (λ p. length p.items ≡ place (diameter array.now) (suc (diameter array.now)) 0 0) }
-    ensures entries { IfOk result (λ p. AreEntries array.now p.items) }
-    ensures reached { IfOk result (λ p. IsReached array.now (P (suc (diameter array.now)) 0 0)) }
-    ensures fault { IfErr result (IsFault array.now) }
-{
-    table_before(alloc, array, array.d(), array.d() + 1)
+    Ok(())
 }

@@ -1,18 +1,38 @@
-//! The terms of the balance equation, read from the table.
+//! The products of the balance equation, read from the table, and the numbers of an array as factors.
 
-ghost use Rattle.std.specs.Prelude.{◌≡◌, ◌≤◌, ◌<◌, ◌+◌, ◌*◌, suc, neg_ℤ, pos, slice_index_or};
-ghost use Rattle.drg_array.specs.Entries.{diameter, c_at, a_at};
+ghost use Rattle.std.specs.Prelude.{◌≡◌, ◌≤◌, ◌<◌, ◌≢◌, suc, neg_ℤ, pos};
+ghost use Rattle.drg_array.specs.Entries.{IsArray, diameter, c_at, a_at};
+ghost use Rattle.drg_intersection.specs.FirstNumbers.{cell as the_cell};
 ghost use Rattle.drg_intersection.specs.Numbers.{place as the_place};
-ghost use Rattle.drg_intersection.specs.Table.{balance as the_balance, cell as the_cell, of_factors, term_above as the_term_above, term_before as the_term_before};
+ghost use Rattle.drg_intersection.specs.Table.{balance as the_balance, of_factors, term_above as the_term_above, term_before as the_term_before};
 
-use crate::work::Product;
 use drg_array::{Array, MAX_DIAMETER};
+use drg_whole::{Product, Whole};
+
+/// An index as it stands in the name of a number.
+pub fn index(array: &Array, i: usize) -> u8
+    requires array { IsArray array.now }
+    requires inside { i ≤ diameter array.now }
+    ensures { result ≡ i }
+{
+    i as u8
+}
+
+/// The entry `c_(i+1)`, by which the formulas of k_(i+1) and of row i+1 divide.
+pub fn divisor(array: &Array, i: usize) -> Whole
+    requires array { IsArray array.now }
+    requires inside { i < diameter array.now }
+    ensures value { result.value ≡ pos (c_at array.now (suc i)) }
+    ensures nonzero { result.value ≢ pos 0 }
+{
+    Whole::new(i128::from(array.c(i + 1)))
+}
 
 /// Where p^h_ij stands in the table.
 pub fn place(d: usize, h: usize, i: usize, j: usize) -> usize
     requires d { d ≤ MAX_DIAMETER }
     requires h { h ≤ d }
-    requires i { i ≤ d }
+    requires i { i ≤ suc d }
     requires j { j ≤ suc d }
     ensures { result ≡ the_place d h i j }
 {
@@ -20,7 +40,8 @@ pub fn place(d: usize, h: usize, i: usize, j: usize) -> usize
 }
 
 /// The number that the table has for p^h_ij, and 0 past its end.
-pub fn cell(array: &Array, p: &[i128], h: usize, i: usize, j: usize) -> i128
+fn cell(array: &Array, p: &[i128], h: usize, i: usize, j: usize) -> i128
+    requires array { IsArray array.now }
     requires h { h ≤ diameter array.now }
     requires i { i ≤ diameter array.now }
     requires j { j ≤ suc (diameter array.now) }
@@ -32,6 +53,7 @@ pub fn cell(array: &Array, p: &[i128], h: usize, i: usize, j: usize) -> i128
 
 /// `b_(j-1) p^h_(i,j-1)`.
 fn term_before(array: &Array, p: &[i128], h: usize, i: usize, j: usize) -> Product
+    requires array { IsArray array.now }
     requires h { h ≤ diameter array.now }
     requires i { i ≤ diameter array.now }
     requires j { j ≤ diameter array.now }
@@ -48,6 +70,7 @@ fn term_before(array: &Array, p: &[i128], h: usize, i: usize, j: usize) -> Produ
 
 /// `a_j p^h_ij`.
 fn term_at(array: &Array, p: &[i128], h: usize, i: usize, j: usize) -> Product
+    requires array { IsArray array.now }
     requires h { h ≤ diameter array.now }
     requires i { i ≤ diameter array.now }
     requires j { j ≤ diameter array.now }
@@ -69,12 +92,13 @@ fn c_after(array: &Array, j: usize) -> u16
 
 /// `c_(j+1) p^h_(i,j+1)`.
 fn term_after(array: &Array, p: &[i128], h: usize, i: usize, j: usize) -> Product
+    requires array { IsArray array.now }
     requires h { h ≤ diameter array.now }
     requires i { i ≤ diameter array.now }
     requires j { j ≤ diameter array.now }
-    ensures { result ≡ of_factors (pos (c_at array.now (suc j))) (the_cell (diameter array.now) p.now h i (suc j)) }
+    ensures { result ≡
+        of_factors (pos (c_at array.now (suc j))) (the_cell (diameter array.now) p.now h i (suc j)) }
 {
-    let _ = array.d();
     Product {
         left: i128::from(c_after(array, j)),
         right: cell(array, p, h, i, j + 1),
@@ -83,6 +107,7 @@ fn term_after(array: &Array, p: &[i128], h: usize, i: usize, j: usize) -> Produc
 
 /// `-b_(i-1) p^h_(i-1,j)`.
 fn term_above(array: &Array, p: &[i128], h: usize, i: usize, j: usize) -> Product
+    requires array { IsArray array.now }
     requires h { h ≤ diameter array.now }
     requires i { i ≤ diameter array.now }
     requires j { j ≤ diameter array.now }
@@ -99,6 +124,7 @@ fn term_above(array: &Array, p: &[i128], h: usize, i: usize, j: usize) -> Produc
 
 /// `-a_i p^h_ij`.
 fn term_same(array: &Array, p: &[i128], h: usize, i: usize, j: usize) -> Product
+    requires array { IsArray array.now }
     requires h { h ≤ diameter array.now }
     requires i { i ≤ diameter array.now }
     requires j { j ≤ diameter array.now }
@@ -110,9 +136,10 @@ fn term_same(array: &Array, p: &[i128], h: usize, i: usize, j: usize) -> Product
     }
 }
 
-/// The terms of the balance equation for row i+1, at j.
+/// The products of the balance equation for row i+1, at j.
 #[tactic(auto, unfolding(crate::specs::Table::balance))]
 pub fn balance(array: &Array, p: &[i128], h: usize, i: usize, j: usize) -> [Product; 5]
+    requires array { IsArray array.now }
     requires h { h ≤ diameter array.now }
     requires i { i ≤ diameter array.now }
     requires j { j ≤ diameter array.now }

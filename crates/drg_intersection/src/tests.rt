@@ -1,5 +1,5 @@
 //! Tables and faults by hand.
-use crate::{Numbers, NumbersFault, numbers_of, rows_before, sizes_before};
+use crate::{Numbers, NumbersFault, numbers_of, numbers_or_before};
 use drg_array::{Array, Claim, Node};
 use std::process::Abort;
 use std::test::Fail;
@@ -9,9 +9,7 @@ fn petersen(rt: HostRuntime) -> Result<(), Fail> {
     let numbers = numbers_of(rt.alloc(), &Array::read(b"{3,2;1,1}")?)?;
     assert_eq!(rt; numbers.d(), 2);
     assert_eq!(rt; numbers.n(), 10);
-    for (i, size) in [1i128, 3, 6].into_iter().enumerate() {
-        assert_eq!(rt; numbers.k(i), size);
-    }
+    assert_eq!(rt; numbers.sizes(), [1, 3, 6].as_slice());
     // The numbers p^h_ij of the Petersen graph, for each h the rows i = 0, 1, 2.
     let table: [[[i128; 3]; 3]; 3] = [
         [[1, 0, 0], [0, 3, 0], [0, 0, 6]],
@@ -20,95 +18,113 @@ fn petersen(rt: HostRuntime) -> Result<(), Fail> {
     ];
     for (h, rows) in table.into_iter().enumerate() {
         for (i, row) in rows.into_iter().enumerate() {
-            for (j, x) in row.into_iter().enumerate() {
-                assert_eq!(rt; numbers.p(h, i, j), x, "{h} {i} {j}");
+            assert_eq!(rt; numbers.row(h, i), row.as_slice(), "{h} {i}");
+        }
+    }
+    Ok(())
+}
+
+/// The 12-cube: two words of twelve bits are as far apart as the bits in which they differ.
+#[test]
+fn cube_of_twelve_bits(rt: HostRuntime) -> Result<(), Fail> {
+    let text = b"{12,11,10,9,8,7,6,5,4,3,2,1;1,2,3,4,5,6,7,8,9,10,11,12}";
+    let numbers = numbers_of(rt.alloc(), &Array::read(text)?)?;
+    assert_eq!(rt; numbers.d(), 12);
+    assert_eq!(rt; numbers.n(), 4096);
+    // The binomial coefficients of 12.
+    let sizes: [i128; 13] = [1, 12, 66, 220, 495, 792, 924, 792, 495, 220, 66, 12, 1];
+    assert_eq!(rt; numbers.sizes(), sizes.as_slice());
+    // A word at distance i from one and j from the other of two that differ in h bits differs from the
+    // first in s = (h+i-j)/2 of these and in t = (i+j-h)/2 of the others: C(h,s)·C(12-h,t).
+    let cases: [([usize; 3], i128); 10] = [
+        ([0, 6, 6], 924),
+        ([12, 5, 7], 792),
+        ([12, 12, 0], 1),
+        ([6, 6, 6], 400),
+        ([4, 5, 3], 112),
+        ([4, 5, 4], 0),
+        ([2, 1, 1], 2),
+        ([8, 2, 2], 0),
+        ([8, 6, 4], 224),
+        ([11, 6, 6], 0),
+    ];
+    for ([h, i, j], x) in cases {
+        assert_eq!(rt; numbers.p(h, i, j), x, "{h} {i} {j}");
+    }
+    Ok(())
+}
+
+/// The fault of each array, and the end of the sizes and rows before it.
+#[test]
+fn faults(rt: HostRuntime) -> Result<(), Fail> {
+    // 4095·4094^9 is below 2^120, and 4095·4094^10 above 2^131.
+    let tenth = 1_323_074_962_456_684_325_913_143_090_760_122_880;
+    let wide_size =
+        b"{4095,4094,4094,4094,4094,4094,4094,4094,4094,4094,4094,4094;1,1,1,1,1,1,1,1,1,1,1,1}";
+    // k_11 = k_12 = 4095·4094^9·100 is above 2^126.
+    let wide_sum =
+        b"{4095,4094,4094,4094,4094,4094,4094,4094,4094,4094,100,1;1,1,1,1,1,1,1,1,1,1,1,1}";
+    // The first product that is too wide is a_10·k_10 = 4093·4095·4094^9, in the formula of p^0_11,10.
+    let wide_number =
+        b"{4095,4094,4094,4094,4094,4094,4094,4094,4094,4094,1;1,1,1,1,1,1,1,1,1,1,1}";
+    let cases: [(&[u8], NumbersFault, &[i128]); 5] = [
+        // k_2 = 5·4/3.
+        (b"{5,4;1,3}", fall(Claim::Size { i: 2 }), &[1, 5]),
+        // p^2_22 = -1.
+        (
+            b"{4,1;1,2}",
+            fall(Claim::Intersect { h: 2, i: 2, j: 2 }),
+            &[4, 2],
+        ),
+        (wide_size, wide(Node::K { i: 11 }), &[tenth]),
+        (wide_sum, wide(Node::N), &[100 * tenth, 100 * tenth]),
+        (
+            wide_number,
+            wide(Node::P { h: 0, i: 11, j: 10 }),
+            &[tenth, tenth],
+        ),
+    ];
+    for (text, fault, last_sizes) in cases {
+        let array = Array::read(text)?;
+        match numbers_of(rt.alloc(), &array) {
+            Ok(_) => assert!(rt; false, "{text:?}"),
+            Err(found) => assert_eq!(rt; found, fault, "{text:?}"),
+        }
+        match numbers_or_before(rt.alloc(), &array) {
+            Ok(_) => assert!(rt; false, "{text:?}"),
+            Err(shortfall) => {
+                assert_eq!(rt; shortfall.fault, fault, "{text:?}");
+                assert!(rt; shortfall.before.sizes().ends_with(last_sizes), "{text:?}");
             }
         }
     }
     Ok(())
 }
 
-#[test]
-fn cube(rt: HostRuntime) -> Result<(), Fail> {
-    let numbers = numbers_of(rt.alloc(), &Array::read(b"{3,2,1;1,2,3}")?)?;
-    assert_eq!(rt; numbers.d(), 3);
-    assert_eq!(rt; numbers.n(), 8);
-    for (i, size) in [1i128, 3, 3, 1].into_iter().enumerate() {
-        assert_eq!(rt; numbers.k(i), size);
-    }
-    assert_eq!(rt; numbers.p(1, 1, 2), 2);
-    assert_eq!(rt; numbers.p(2, 1, 1), 2);
-    assert_eq!(rt; numbers.p(2, 2, 2), 2);
-    assert_eq!(rt; numbers.p(3, 1, 2), 3);
-    assert_eq!(rt; numbers.p(2, 1, 2), 0);
-    assert_eq!(rt; numbers.p(3, 3, 0), 1);
-    Ok(())
+fn fall(claim: Claim) -> NumbersFault {
+    NumbersFault::Fall { claim }
+}
+
+fn wide(node: Node) -> NumbersFault {
+    NumbersFault::Wide { node }
 }
 
 #[test]
-fn faults(rt: HostRuntime) -> Result<(), Fail> {
-    let wide =
-        b"{4095,4094,4094,4094,4094,4094,4094,4094,4094,4094,4094,4094;1,1,1,1,1,1,1,1,1,1,1,1}";
-    let cases: [(&[u8], NumbersFault); 3] = [
-        // k_2 = 5·4/3.
-        (
-            b"{5,4;1,3}",
-            NumbersFault::Fall {
-                claim: Claim::Size { i: 2 },
-            },
-        ),
-        // k is 1, 4, 2, and p^2_22 = -1.
-        (
-            b"{4,1;1,2}",
-            NumbersFault::Fall {
-                claim: Claim::Intersect { h: 2, i: 2, j: 2 },
-            },
-        ),
-        // 4095·4094^9 is below 2^120, 4095·4094^10 above 2^131.
-        (
-            wide,
-            NumbersFault::Wide {
-                node: Node::K { i: 11 },
-            },
-        ),
-    ];
-    for (text, fault) in cases {
-        match numbers_of(rt.alloc(), &Array::read(text)?) {
-            Ok(_) => assert!(rt; false, "{text:?}"),
-            Err(found) => assert_eq!(rt; found, fault, "{text:?}"),
-        }
+fn rows_before_the_first_that_fails(rt: HostRuntime) -> Result<(), Fail> {
+    let Err(shortfall) = numbers_or_before(rt.alloc(), &Array::read(b"{4,1;1,2}")?) else {
+        assert!(rt; false);
+        return Ok(());
+    };
+    let before = shortfall.before;
+    assert_eq!(rt; before.d(), 2);
+    assert_eq!(rt; before.sizes(), [1, 4, 2].as_slice());
+    // p^2_22 = -1, after p^2_1j = 0, c_2 and a_2 in row 1.
+    let rows: [[i128; 3]; 2] = [[0, 0, 1], [0, 2, 2]];
+    for (i, row) in rows.into_iter().enumerate() {
+        assert!(rt; before.has_row(2, i));
+        assert_eq!(rt; before.row(2, i), row.as_slice(), "{i}");
     }
-    Ok(())
-}
-
-#[test]
-fn before_the_first_that_fails(rt: HostRuntime) -> Result<(), Fail> {
-    // k_2 = 5·4/3.
-    let array = Array::read(b"{5,4;1,3}")?;
-    match numbers_of(rt.alloc(), &array) {
-        Err(
-            NumbersFault::Fall {
-                claim: Claim::Size { i },
-            },
-        ) => {
-            let sizes = sizes_before(rt.alloc(), &array, usize::from(i))?;
-            assert_eq!(rt; sizes.as_slice(), [1, 5].as_slice());
-        }
-        _ => assert!(rt; false, "no size fails"),
-    }
-    // p^2_22 = -1, after p^2_1j = c_2 and a_2 in row 1.
-    let array = Array::read(b"{4,1;1,2}")?;
-    match numbers_of(rt.alloc(), &array) {
-        Err(
-            NumbersFault::Fall {
-                claim: Claim::Intersect { h, i, j: _ },
-            },
-        ) => {
-            let rows = rows_before(rt.alloc(), &array, usize::from(h), usize::from(i))?;
-            assert_eq!(rt; rows.as_slice(), [0, 0, 1, 0, 2, 2].as_slice());
-        }
-        _ => assert!(rt; false, "no intersection number fails"),
-    }
+    assert!(rt; !before.has_row(2, 2));
     Ok(())
 }
 

@@ -1,7 +1,3 @@
-use Rattle.std.proofs.Common.{List}
-use Rattle.std.proofs.lemmas.Result.{IfOk-weaker}
-use Rattle.drg_array.specs.declared.test.Test.{Test}
-use Rattle.drg_engine.specs.Verdicts.{IsFirstFailing, VerdictHolds}
 use Rattle.drg_engine.proofs.ClaimFacts.{parity_first, none_fails}
 use Rattle.drg_engine.proofs.Decisions.{survivor}
 use Rattle.drg_engine.proofs.judging.judge_numbers.Goals as goal
@@ -13,10 +9,8 @@ returns-in-Some c =
     let says = c.in-Some.ensures in
     let array = c.d.ensures.array in
     let numbers = c.requires.numbers in
-    IfOk-weaker c.infeasible_by.result (λ verdict. (tests : List Test) → IsFirstFailing a tests claim → VerdictHolds a tests verdict) (VerdictHolds a c.args.tests.now)
-    (λ verdict right. right c.args.tests.now
-    (parity_first a c.requires.entries c.requires.pass c.args.tests.now claim says.selected (says.fails a array numbers) (says.first a array numbers)))
-    c.infeasible_by.ensures
+    c.infeasible_by.ensures c.args.tests.now
+    (parity_first a c.requires.entries c.requires.pass c.args.tests.now claim says.selected (says.fails a array numbers) (says.first a array numbers))
 
 pub returns : goal.returns
 returns c =

@@ -1,23 +1,18 @@
-use Rattle.std.proofs.Common.{rules, arith, ◌≡◌, ◌+◌, ◌-◌, ◌*◌, take, drop, subst, ◌∙◌}
+use Rattle.std.proofs.Common.{rules, arith, ◌≡◌, sym, subst, ◌∙◌}
 use Rattle.std.proofs.lemmas.Int.{to_z_pos, to_z-of_z}
 use mir.Syntax.{w128}
-use Rattle.drg_algebra.specs.Rational.{whole}
-use Rattle.drg_array.specs.Entries.{diameter}
-use Rattle.drg_array.specs.Numbers.{IsIntersectionNumber}
+use Rattle.drg_intersection.specs.FirstNumbers.{IsRowOf}
 use Rattle.drg_engine.proofs.LineLists.{row_is}
 use Rattle.drg_engine.proofs.lines.row_line.Goals as goal
 
 pub returns : goal.returns
-returns c =
-    let a = c.args.array.now in
-    let rows = c.args.rows.now in
-    let i = c.args.i in
-    let d = diameter c.args.array.now in
-    let values = c.new.ensures ∙ c.in_ok-values.ensures.items in
-    let row = row_is d i rows c.new.result (λ j x. IsIntersectionNumber a c.args.h i j (whole x)) c.requires.inside
-    (subst (λ n. c.new.result ≡ take (i * (n + 1) + (n + 1) - i * (n + 1)) (drop (i * (n + 1)) rows)) c.d-width.ensures.value values) c.requires.row in (
-      to_z-of_z w128 c.from.result (search rules) ∙ c.from.ensures,
-      to_z_pos w128 c.args.i (omega (arith, c.requires.short, c.d-width.ensures.array.short)),
+returns c = λ a are.
+    let first = c.args.first.now in
+    let values : c.new.result ≡ c.row.result.now = c.new.ensures ∙ c.in_ok-values.ensures.items in
+    let read = subst (λ h. IsRowOf c.args.first.now h c.args.i c.row.result.now) c.from.ensures c.row.ensures in
+    let row = row_is a first c.args.h c.args.i c.new.result c.requires.h c.requires.i c.requires.made (subst (IsRowOf c.args.first.now c.args.h c.args.i) (sym values) read) are in (
+      to_z-of_z w128 c.from-2.result (search rules) ∙ c.from-2.ensures,
+      to_z_pos w128 c.args.i (omega (arith, c.ranges.i.fits)),
       row.0,
       row.1,
     )

@@ -8,7 +8,7 @@ use Rattle.drg_intersection.proofs.sizes.sum_of.Given as goal
 
 abbrev pub invariant-sizes : goal.invariant-sizes
 invariant-sizes l = record {
-  sum : total (whole (pos 0)) plus l.size-index (size l.array) ≡ whole l.sum;
-  natural : pos 0 ≤ℤ l.sum;
+  sum : total (whole (pos 0)) plus l.size-index (size l.array) ≡ whole l.sum.value;
+  natural : pos 0 ≤ℤ l.sum.value;
   fits : (i : ℕ) → i < l.size-index → IsInRange (total (whole (pos 0)) plus (suc i) (size l.array));
 }
