@@ -62,6 +62,7 @@ FAULTS = [
     ("$drg replay examples", "cannot read", 68),
     ("$drg check examples/petersen.txt >/dev/full", "cannot write", 69),
     ("$drg replay examples/derivations/size.txt >/dev/full", "cannot write", 69),
+    ("ulimit -v 50000; head -c 60000000 /dev/zero | $drg check /dev/stdin", "no memory", 71),
 ]
 LIMIT_SECONDS = 3600
 
@@ -246,7 +247,8 @@ def page_cases():
 
 
 def main():
-    subprocess.run([TOP / "bin" / "drg"], stdout=subprocess.DEVNULL, check=False)  # builds it once, and says so
+    build = [TOP / "bin" / "drg", "check", EXAMPLES / "petersen.txt"]
+    subprocess.run(build, stdout=subprocess.DEVNULL, check=False)  # builds it once, and says so
     passed = failed = 0
     groups = (graph_cases, failing_cases, replay_cases, refused_cases, wide_cases, fault_cases, copy_cases, page_cases)
     for cases in groups:

@@ -73,7 +73,8 @@ def holds(place, lines, top):
 
 def main():
     top = Path(__file__).resolve().parent.parent
-    subprocess.run([top / "bin" / "drg"], stdout=subprocess.DEVNULL, check=False)  # builds it once, and says so
+    build = [top / "bin" / "drg", "check", top / "examples" / "petersen.txt"]
+    subprocess.run(build, stdout=subprocess.DEVNULL, check=False)  # builds it once, and says so
     passed = failed = 0
     for name in sys.argv[1:]:
         for begins, lines in sessions(Path(name)):
