@@ -30,6 +30,7 @@ abbrev pub AreWordsOf : Command → List (List ℕ) → Type 0
 AreWordsOf (Check tests file) words = IsFileName file × (IsWholeCheck tests file words ⊎ IsListedCheck tests file words)
 AreWordsOf (Replay file) words = IsFileName file × (words ≡ codes "replay" ∷ file ∷ [])
 
+-- the words are those of a command
 abbrev pub IsCommand : List (List ℕ) → Type 0
 IsCommand words = (command : Command) × AreWordsOf command words
 

@@ -22,7 +22,7 @@ mod status;
 ghost use Rattle.std.specs.Prelude.{◌≡◌, ◌≢◌, ◌≤◌, ◌⊎◌, ◌↔◌, ℕ, List};
 ghost use Rattle.drg_outside.specs.Causes.{Rose};
 ghost use Rattle.drg_program.specs.Input.{AreInputOf, HasCauses, IsFileMissing, IsToldInput};
-ghost use Rattle.drg_program.specs.Run.{Answers, Decides, Ends};
+ghost use Rattle.drg_program.specs.Run.{Answers, Decides, Ends, ReadsFile};
 ghost use Rattle.drg_program.specs.Statuses.{IsEarly};
 ghost use Rattle.drg_program.specs.Words.{AreWordsOf, IsCommand, file_of, words_of};
 
@@ -52,13 +52,14 @@ pub fn run<I: Inputs, K: Sink>(
     inputs: &mut I,
     sink: &mut K,
 ) -> Status
-    // Exactly other words than those of a command are refused as such, where memory suffices, and
-    // nothing is opened then.
+    // Where memory suffices, exactly other words than those of a command are refused as such. Nothing is
+    // opened but for a command that reads a file.
     ensures usage { result ≢ Status.Memory
         → ((result ≡ Status.Usage) ↔ (IsCommand (words_of words.now) → ⊥)) }
     ensures command { result ≢ Status.Memory → result ≢ Status.Usage
         → IsCommand (words_of words.now) }
-    ensures unopened { (IsCommand (words_of words.now) → ⊥) → inputs.new ≡ inputs.old }
+    ensures unopened { ((command : Command) → AreWordsOf command (words_of words.now)
+        → ReadsFile command → ⊥) → inputs.new ≡ inputs.old }
 
     // Each fault has its cause, and no count of faults falls.
     ensures open { result ≡ Status.OpenFault
@@ -86,7 +87,8 @@ pub fn run<I: Inputs, K: Sink>(
         × Answers command bytes result (K.bytes sink.old) (K.bytes sink.new) }
 
     // Where the bytes are told and no count rose, they decide the status, up to want of memory.
-    ensures complete { (command : Command) (bytes : List ℕ) → AreWordsOf command (words_of words.now)
+    ensures complete { (command : Command) (bytes : List ℕ)
+        → AreWordsOf command (words_of words.now)
         → IsToldInput (I.files inputs.old) (file_of command) bytes
         → (Rose (I.open_faults inputs.old) (I.open_faults inputs.new) → ⊥)
         → (Rose (I.read_faults inputs.old) (I.read_faults inputs.new) → ⊥)
@@ -107,6 +109,7 @@ fn carry_out<I: Inputs, K: Sink>(
     sink: &mut K,
 ) -> Status
     ensures usage { result ≢ Status.Usage }
+    ensures unopened { (ReadsFile command.now → ⊥) → inputs.new ≡ inputs.old }
     ensures open { result ≡ Status.OpenFault
         → Rose (I.open_faults inputs.old) (I.open_faults inputs.new)
         ⊎ IsFileMissing (I.files inputs.old) (file_of command.now) }
@@ -149,6 +152,7 @@ fn output_of<I: Inputs>(
     ensures causes { HasCauses (file_of command.now) (I.files inputs.old)
         (I.open_faults inputs.old) (I.open_faults inputs.new)
         (I.read_faults inputs.old) (I.read_faults inputs.new) result }
+    ensures unopened { (ReadsFile command.now → ⊥) → inputs.new ≡ inputs.old }
     ensures same_files { I.files inputs.new ≡ I.files inputs.old }
 {
     match command {

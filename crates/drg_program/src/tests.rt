@@ -33,6 +33,217 @@ const KREIN: &str =
 const TRIPLE: &str =
     "drg 1\narray 2 6 4 1 4\nclaim triple 1 1 1\np 1 1 1 1 4\np 1 2 0 4 2\neq 1 1 2\nmiss 0\nend\n";
 
+/// Each with the report and with what the report is replayed as.
+const INFEASIBLE: [(&str, &str, &str); 9] = [
+    (
+        "{3,2;2,1}\n",
+        "drg 1\narray 2 3 2 2 1\nclaim first\nend\nverdict infeasible first counting\n",
+        "accepted first counting\n",
+    ),
+    (
+        "{3,3;1,1}\n",
+        "drg 1\narray 2 3 3 1 1\nclaim degree 1\nend\nverdict infeasible degree 1 counting\n",
+        "accepted degree 1 counting\n",
+    ),
+    (
+        "{4,1,2;1,1,1}\n",
+        "drg 1\narray 3 4 1 2 1 1 1\nclaim order 1\nend\nverdict infeasible order 1 counting\n",
+        "accepted order 1 counting\n",
+    ),
+    (
+        "{6,2,1;1,3,3}\n",
+        "drg 1\narray 3 6 2 1 1 3 3\nclaim cross 2 1\nend\nverdict infeasible cross 2 1 counting\n",
+        "accepted cross 2 1 counting\n",
+    ),
+    // 5·4 isn't divisible by 3.
+    (
+        "{5,4;1,3}\n",
+        "drg 1\narray 2 5 4 1 3\nclaim size 2\nk 1 5\nend\nverdict infeasible size 2 counting\n",
+        "accepted size 2 counting\n",
+    ),
+    // 1·2 + 2·2 - 4·1 - 2·2 is negative.
+    (
+        "{4,1;1,2}\n",
+        "drg 1\narray 2 4 1 1 2\nclaim intersect 2 2 2\np 2 1 0 2 2\nend\nverdict infeasible intersect 2 2 2 counting\n",
+        "accepted intersect 2 2 2 counting\n",
+    ),
+    // 7·3 is odd.
+    ("{3,2;1,2}\n", HANDSHAKE, "accepted handshake 1 counting\n"),
+    // 5·1 is odd.
+    (
+        "{5,3,1;1,1,1}\n",
+        "drg 1\narray 3 5 3 1 1 1 1\nclaim induced 1 1\nk 1 5 15 15\np 1 1 1 1 3 0\nend\nverdict infeasible induced 1 1 counting\n",
+        "accepted induced 1 1 counting\n",
+    ),
+    // 16·5·2 isn't divisible by 6.
+    (
+        "{5,2;1,1}\n",
+        "drg 1\narray 2 5 2 1 1\nclaim triangles 1\nk 1 5 10\np 1 1 1 2 2\nend\nverdict infeasible triangles 1 counting\n",
+        "accepted triangles 1 counting\n",
+    ),
+];
+
+/// Each with the tests that are selected, where some are named, and with its status and its report.
+const CHECKED: [(&str, &str, Status, &str); 22] = [
+    ("", "{3,2;1,1}\r\n", Status::Survivor, PETERSEN),
+    ("", " { 3, 2; 1, 1 } \n", Status::Survivor, PETERSEN),
+    (
+        "",
+        "{3;1}",
+        Status::Survivor,
+        "verdict survivor\narray {3;1}\npassed first degree order cross size intersect handshake induced triangles\nn 4\nsizes 1 3\n",
+    ),
+    // k_10 = 4095·4094^9 is below 2^120, and the product of k_10 and b_10 is above 2^127.
+    (
+        "",
+        "{4095,4094,4094,4094,4094,4094,4094,4094,4094,4094,4094,4094;1,1,1,1,1,1,1,1,1,1,1,1}\n",
+        Status::Undecided,
+        "verdict undecided\narray {4095,4094,4094,4094,4094,4094,4094,4094,4094,4094,4094,4094;1,1,1,1,1,1,1,1,1,1,1,1}\npassed first degree order cross\npending size wide k 11\n",
+    ),
+    (
+        "",
+        "{3,2;1,1}\n\n",
+        Status::BadInput { line: 1, at: 10 },
+        "",
+    ),
+    ("", "{3,2;1,1}\r", Status::BadInput { line: 1, at: 10 }, ""),
+    ("", "", Status::BadInput { line: 1, at: 1 }, ""),
+    ("", "\n", Status::BadInput { line: 1, at: 1 }, ""),
+    ("", "{3,2;1}\n", Status::BadInput { line: 1, at: 7 }, ""),
+    ("", "{}\n", Status::BadInput { line: 1, at: 2 }, ""),
+    ("", "{3,0;1,1}\n", Status::BadInput { line: 1, at: 4 }, ""),
+    ("", "{03,2;1,1}\n", Status::BadInput { line: 1, at: 2 }, ""),
+    (
+        "",
+        "{4096,1;1,1}\n",
+        Status::BadInput { line: 1, at: 5 },
+        "",
+    ),
+    // The array {3,2;1,2} fails each of the three tests that can be selected.
+    (
+        "none",
+        "{3,2;1,2}\n",
+        Status::Survivor,
+        "verdict survivor\narray {3,2;1,2}\npassed first degree order cross size intersect\nn 7\nsizes 1 3 3\n",
+    ),
+    ("handshake", "{3,2;1,2}\n", Status::Infeasible, HANDSHAKE),
+    ("induced", "{3,2;1,2}\n", Status::Infeasible, INDUCED),
+    (
+        "triangles",
+        "{3,2;1,2}\n",
+        Status::Infeasible,
+        "drg 1\narray 2 3 2 1 2\nclaim triangles 2\nk 1 3 3\np 2 1 0 2 1\np 2 2 1 1 1\nend\nverdict infeasible triangles 2 counting\n",
+    ),
+    (
+        "handshake,induced",
+        "{3,2;1,2}\n",
+        Status::Infeasible,
+        HANDSHAKE,
+    ),
+    (
+        "triangles,handshake",
+        "{3,2;1,2}\n",
+        Status::Infeasible,
+        HANDSHAKE,
+    ),
+    (
+        "triangles,induced",
+        "{3,2;1,2}\n",
+        Status::Infeasible,
+        INDUCED,
+    ),
+    (
+        "induced,triangles,handshake",
+        "{3,2;1,2}\n",
+        Status::Infeasible,
+        HANDSHAKE,
+    ),
+    (
+        "handshake",
+        "{5,2;1,1}\n",
+        Status::Survivor,
+        "verdict survivor\narray {5,2;1,1}\npassed first degree order cross size intersect handshake\nn 16\nsizes 1 5 10\n",
+    ),
+];
+
+/// Each with its status and its answer.
+const REPLAYED: [(&str, Status, &str); 19] = [
+    (
+        "drg 1\narray 2 3 3 1 1\nclaim degree 2\nend\n",
+        Status::Rejected,
+        "rejected open 4\n",
+    ),
+    (
+        "drg 1\narray 2 3 3 1 1\nclaim degree 3\nend\n",
+        Status::Rejected,
+        "rejected line 3\n",
+    ),
+    // Petersen's graph has none of these faults.
+    (
+        "drg 1\narray 2 3 2 1 1\nclaim first\nend\n",
+        Status::Rejected,
+        "rejected open 4\n",
+    ),
+    (
+        "drg 1\narray 2 3 2 1 1\nclaim first\nk 1 3 6\nend\n",
+        Status::Rejected,
+        "rejected open 5\n",
+    ),
+    (
+        "drg 1\narray 2 3 3 1 1\nclaim degree 1\nk 1 3 8\nend\n",
+        Status::Rejected,
+        "rejected line 4\n",
+    ),
+    // The double of 2^126 is 2^127.
+    (
+        "drg 1\narray 2 4 1 2 2\nclaim first\nk 1 85070591730234615865843651857942052864\nend\n",
+        Status::Undecided,
+        "undecided wide 4\n",
+    ),
+    (MULT, Status::Rejected, "rejected line 6\n"),
+    (KREIN, Status::Rejected, "rejected line 3\n"),
+    (TRIPLE, Status::Rejected, "rejected line 3\n"),
+    ("", Status::BadInput { line: 1, at: 0 }, ""),
+    ("drg 1", Status::BadInput { line: 1, at: 0 }, ""),
+    (
+        "drg 2\narray 2 3 3 1 1\nclaim degree 1\nend\n",
+        Status::BadInput { line: 1, at: 0 },
+        "",
+    ),
+    (
+        "drg 1\r\narray 2 3 3 1 1\r\nclaim degree 1\r\nend\r\n",
+        Status::BadInput { line: 1, at: 0 },
+        "",
+    ),
+    (
+        "drg 1\narray 2 3 3 1\nclaim degree 1\nend\n",
+        Status::BadInput { line: 2, at: 0 },
+        "",
+    ),
+    (
+        "drg 1\narray 2 3 3 1 1\nclaim  degree 1\nend\n",
+        Status::BadInput { line: 3, at: 0 },
+        "",
+    ),
+    (
+        "drg 1\narray 2 3 3 1 1\nclaim degree 1\n",
+        Status::BadInput { line: 4, at: 0 },
+        "",
+    ),
+    (
+        "drg 1\narray 2 3 3 1 1\nclaim degree 1\nend",
+        Status::BadInput { line: 4, at: 0 },
+        "",
+    ),
+    // The text is looked at before the claim, which line 3 doesn't meet.
+    (
+        "drg 1\narray 2 3 3 1 1\nclaim degree 3\nk 1 3\nk\nend\n",
+        Status::BadInput { line: 5, at: 0 },
+        "",
+    ),
+    ("{3,3;1,1}\n", Status::BadInput { line: 1, at: 0 }, ""),
+];
+
 /// One run over a file `f`: what it answers, and what it has written.
 fn run_on(
     alloc: Global,
@@ -54,55 +265,7 @@ fn run_on(
 #[test]
 fn infeasible_arrays(rt: HostRuntime) -> Result<(), Fail> {
     let alloc = rt.alloc();
-    let cases = [
-        (
-            "{3,2;2,1}\n",
-            "drg 1\narray 2 3 2 2 1\nclaim first\nend\nverdict infeasible first counting\n",
-            "accepted first counting\n",
-        ),
-        (
-            "{3,3;1,1}\n",
-            "drg 1\narray 2 3 3 1 1\nclaim degree 1\nend\nverdict infeasible degree 1 counting\n",
-            "accepted degree 1 counting\n",
-        ),
-        (
-            "{4,1,2;1,1,1}\n",
-            "drg 1\narray 3 4 1 2 1 1 1\nclaim order 1\nend\nverdict infeasible order 1 counting\n",
-            "accepted order 1 counting\n",
-        ),
-        (
-            "{6,2,1;1,3,3}\n",
-            "drg 1\narray 3 6 2 1 1 3 3\nclaim cross 2 1\nend\nverdict infeasible cross 2 1 counting\n",
-            "accepted cross 2 1 counting\n",
-        ),
-        // 5·4 isn't divisible by 3.
-        (
-            "{5,4;1,3}\n",
-            "drg 1\narray 2 5 4 1 3\nclaim size 2\nk 1 5\nend\nverdict infeasible size 2 counting\n",
-            "accepted size 2 counting\n",
-        ),
-        // 1·2 + 2·2 - 4·1 - 2·2 is negative.
-        (
-            "{4,1;1,2}\n",
-            "drg 1\narray 2 4 1 1 2\nclaim intersect 2 2 2\np 2 1 0 2 2\nend\nverdict infeasible intersect 2 2 2 counting\n",
-            "accepted intersect 2 2 2 counting\n",
-        ),
-        // 7·3 is odd.
-        ("{3,2;1,2}\n", HANDSHAKE, "accepted handshake 1 counting\n"),
-        // 5·1 is odd.
-        (
-            "{5,3,1;1,1,1}\n",
-            "drg 1\narray 3 5 3 1 1 1 1\nclaim induced 1 1\nk 1 5 15 15\np 1 1 1 1 3 0\nend\nverdict infeasible induced 1 1 counting\n",
-            "accepted induced 1 1 counting\n",
-        ),
-        // 16·5·2 isn't divisible by 6.
-        (
-            "{5,2;1,1}\n",
-            "drg 1\narray 2 5 2 1 1\nclaim triangles 1\nk 1 5 10\np 1 1 1 2 2\nend\nverdict infeasible triangles 1 counting\n",
-            "accepted triangles 1 counting\n",
-        ),
-    ];
-    for (content, written, line) in cases {
+    for (content, written, line) in INFEASIBLE {
         let (status, report) = run_on(alloc, &["check", "f"], content.as_bytes(), (&[], &[]))?;
         assert_eq!(rt; status, Status::Infeasible, "{content:?}");
         assert_eq!(rt; report.written(), written.as_bytes(), "{content:?}");
@@ -115,80 +278,15 @@ fn infeasible_arrays(rt: HostRuntime) -> Result<(), Fail> {
 }
 
 #[test]
-fn other_arrays(rt: HostRuntime) -> Result<(), Fail> {
-    let alloc = rt.alloc();
-    let bad = |at| Status::BadInput { line: 1, at };
-    let cases = [
-        ("{3,2;1,1}\r\n", Status::Survivor, PETERSEN),
-        (" { 3, 2; 1, 1 } \n", Status::Survivor, PETERSEN),
-        (
-            "{3;1}",
-            Status::Survivor,
-            "verdict survivor\narray {3;1}\npassed first degree order cross size intersect handshake induced triangles\nn 4\nsizes 1 3\n",
-        ),
-        // k_10 = 4095·4094^9 is below 2^120, and the product of k_10 and b_10 is above 2^127.
-        (
-            "{4095,4094,4094,4094,4094,4094,4094,4094,4094,4094,4094,4094;1,1,1,1,1,1,1,1,1,1,1,1}\n",
-            Status::Undecided,
-            "verdict undecided\narray {4095,4094,4094,4094,4094,4094,4094,4094,4094,4094,4094,4094;1,1,1,1,1,1,1,1,1,1,1,1}\npassed first degree order cross\npending size wide k 11\n",
-        ),
-        ("{3,2;1,1}\n\n", bad(10), ""),
-        ("{3,2;1,1}\r", bad(10), ""),
-        ("", bad(1), ""),
-        ("\n", bad(1), ""),
-        ("{3,2;1}\n", bad(7), ""),
-        ("{}\n", bad(2), ""),
-        ("{3,0;1,1}\n", bad(4), ""),
-        ("{03,2;1,1}\n", bad(2), ""),
-        ("{4096,1;1,1}\n", bad(5), ""),
-    ];
-    for (content, status, written) in cases {
-        let (answer, sink) = run_on(alloc, &["check", "f"], content.as_bytes(), (&[], &[]))?;
-        assert_eq!(rt; answer, status, "{content:?}");
-        assert_eq!(rt; sink.written(), written.as_bytes(), "{content:?}");
-    }
-    Ok(())
-}
-
-#[test]
-fn selected_tests(rt: HostRuntime) -> Result<(), Fail> {
-    let alloc = rt.alloc();
-    // The array {3,2;1,2} fails each of the three tests that can be selected.
-    let (none, some) = (Status::Survivor, Status::Infeasible);
-    let cases = [
-        (
-            "none",
-            "{3,2;1,2}\n",
-            none,
-            "verdict survivor\narray {3,2;1,2}\npassed first degree order cross size intersect\nn 7\nsizes 1 3 3\n",
-        ),
-        ("handshake", "{3,2;1,2}\n", some, HANDSHAKE),
-        ("induced", "{3,2;1,2}\n", some, INDUCED),
-        (
-            "triangles",
-            "{3,2;1,2}\n",
-            some,
-            "drg 1\narray 2 3 2 1 2\nclaim triangles 2\nk 1 3 3\np 2 1 0 2 1\np 2 2 1 1 1\nend\nverdict infeasible triangles 2 counting\n",
-        ),
-        ("handshake,induced", "{3,2;1,2}\n", some, HANDSHAKE),
-        ("triangles,handshake", "{3,2;1,2}\n", some, HANDSHAKE),
-        ("triangles,induced", "{3,2;1,2}\n", some, INDUCED),
-        (
-            "induced,triangles,handshake",
-            "{3,2;1,2}\n",
-            some,
-            HANDSHAKE,
-        ),
-        (
-            "handshake",
-            "{5,2;1,1}\n",
-            none,
-            "verdict survivor\narray {5,2;1,1}\npassed first degree order cross size intersect handshake\nn 16\nsizes 1 5 10\n",
-        ),
-    ];
-    for (list, content, status, written) in cases {
+fn checked_arrays(rt: HostRuntime) -> Result<(), Fail> {
+    for (list, content, status, written) in CHECKED {
         let words = ["check", "--tests", list, "f"];
-        let (answer, sink) = run_on(alloc, &words, content.as_bytes(), (&[], &[]))?;
+        let words = if list.is_empty() {
+            &["check", "f"]
+        } else {
+            words.as_slice()
+        };
+        let (answer, sink) = run_on(rt.alloc(), words, content.as_bytes(), (&[], &[]))?;
         assert_eq!(rt; answer, status, "{list} {content:?}");
         assert_eq!(rt; sink.written(), written.as_bytes(), "{list} {content:?}");
     }
@@ -196,80 +294,14 @@ fn selected_tests(rt: HostRuntime) -> Result<(), Fail> {
 }
 
 #[test]
-fn answers_to_derivations(rt: HostRuntime) -> Result<(), Fail> {
+fn replayed_texts(rt: HostRuntime) -> Result<(), Fail> {
     let alloc = rt.alloc();
-    let cases = [
-        (
-            "drg 1\narray 2 3 3 1 1\nclaim degree 2\nend\n",
-            Status::Rejected,
-            "rejected open 4\n",
-        ),
-        (
-            "drg 1\narray 2 3 3 1 1\nclaim degree 3\nend\n",
-            Status::Rejected,
-            "rejected line 3\n",
-        ),
-        // Petersen's graph has none of these faults.
-        (
-            "drg 1\narray 2 3 2 1 1\nclaim first\nend\n",
-            Status::Rejected,
-            "rejected open 4\n",
-        ),
-        (
-            "drg 1\narray 2 3 2 1 1\nclaim first\nk 1 3 6\nend\n",
-            Status::Rejected,
-            "rejected open 5\n",
-        ),
-        (
-            "drg 1\narray 2 3 3 1 1\nclaim degree 1\nk 1 3 8\nend\n",
-            Status::Rejected,
-            "rejected line 4\n",
-        ),
-        // The double of 2^126 is 2^127.
-        (
-            "drg 1\narray 2 4 1 2 2\nclaim first\nk 1 85070591730234615865843651857942052864\nend\n",
-            Status::Undecided,
-            "undecided wide 4\n",
-        ),
-        (MULT, Status::Rejected, "rejected line 6\n"),
-        (KREIN, Status::Rejected, "rejected line 3\n"),
-        (TRIPLE, Status::Rejected, "rejected line 3\n"),
-    ];
-    for (content, status, written) in cases {
+    for (content, status, written) in REPLAYED {
         let (answer, sink) = run_on(alloc, &["replay", "f"], content.as_bytes(), (&[], &[]))?;
         assert_eq!(rt; answer, status, "{content:?}");
         assert_eq!(rt; sink.written(), written.as_bytes(), "{content:?}");
     }
-    Ok(())
-}
-
-#[test]
-fn texts_that_are_no_derivation(rt: HostRuntime) -> Result<(), Fail> {
-    let alloc = rt.alloc();
-    let cases = [
-        ("", 1),
-        ("drg 1", 1),
-        ("drg 2\narray 2 3 3 1 1\nclaim degree 1\nend\n", 1),
-        ("drg 1\r\narray 2 3 3 1 1\r\nclaim degree 1\r\nend\r\n", 1),
-        ("drg 1\narray 2 3 3 1\nclaim degree 1\nend\n", 2),
-        ("drg 1\narray 2 3 3 1 1\nclaim  degree 1\nend\n", 3),
-        ("drg 1\narray 2 3 3 1 1\nclaim degree 1\n", 4),
-        ("drg 1\narray 2 3 3 1 1\nclaim degree 1\nend", 4),
-        // The text is looked at before the claim, which line 3 doesn't meet.
-        ("drg 1\narray 2 3 3 1 1\nclaim degree 3\nk 1 3\nk\nend\n", 5),
-        ("{3,3;1,1}\n", 1),
-    ];
-    for (content, line) in cases {
-        let (answer, sink) = run_on(alloc, &["replay", "f"], content.as_bytes(), (&[], &[]))?;
-        assert_eq!(rt; answer, Status::BadInput { line, at: 0 }, "{content:?}");
-        assert!(rt; sink.written().is_empty(), "{content:?}");
-    }
-    Ok(())
-}
-
-#[test]
-fn bytes_after_a_derivation(rt: HostRuntime) -> Result<(), Fail> {
-    let alloc = rt.alloc();
+    // What follows a derivation isn't looked at.
     let mut content = DEGREE.as_bytes().to_vec(alloc)?;
     content.extend_from_slice(&[255; 1000])?;
     let (answer, sink) = run_on(alloc, &["replay", "f"], &content, (&[], &[]))?;
