@@ -3,8 +3,8 @@ use Rattle.std.proofs.Common.{◌≡◌, ℕ, zero, suc, ◌*◌, ◌/◌, ◌<�
 use Rattle.std.specs.Int.{◌∣◌}
 use Rattle.std.proofs.lemmas.Nat.Gcd.{IsGcd-swap, same_from_IsGcd, dvd_trans, dvd-zero}
 use Rattle.std.proofs.Math.Nat.{eq-one_of_dvd-one}
-use native.Mathlib.Nat.{mul_comm, mul-one, mul-div_cancel', dvd-mul_left, pos_of_dvd_of_pos, eq_of_mul-eq-mul_left, mul-pos}
-use Rattle.drg_algebra.specs.Gcd.{gcd_of, gcd_is, gcd_zero, gcd_times, euclids_lemma}
+use native.Mathlib.Nat.{mul_comm, mul-div_cancel', dvd-mul_left, pos_of_dvd_of_pos, eq_of_mul-eq-mul_left, mul-pos}
+use Rattle.drg_algebra.specs.Gcd.{gcd_of, gcd_is, gcd_zero, gcd_times, some_factor, divided_coprime, euclids_lemma}
 use Rattle.drg_algebra.specs.Root.{IsSquarefree, no_square_ratio}
 use Rattle.drg_algebra.specs.DivisorLaws.{GcdIsGreatest, GcdCommutes, GcdScales, EuclidsLemma, CoprimeToProduct, OneSquarefreePart, NoSquareOfQuotient}
 
@@ -56,18 +56,14 @@ one_squarefree_part f g d e df ef fp gp h =
     let b = g / k in
     let ka : k * a ≡ f = mul-div_cancel' k (gcd_is f g).0 in
     let kb : k * b ≡ g = mul-div_cancel' k (gcd_is f g).1 in
-    let coprime : gcd_of a b ≡ 1 = eq_of_mul-eq-mul_left k p _ _ (sym (gcd_times k a b p) ∙ ap₂ gcd_of ka kb ∙ sym (mul-one k)) in
+    let coprime : gcd_of a b ≡ 1 = divided_coprime f g gp in
     let big : (k * k) * ((a * a) * d) ≡ (k * k) * ((b * b) * e) =
     subst₂ (λ (x y : ℕ). (x * x) * d ≡ (y * y) * e → (k * k) * ((a * a) * d) ≡ (k * k) * ((b * b) * e)) ka kb (λ q. omega (arith, q)) h in
     let small : (a * a) * d ≡ (b * b) * e = eq_of_mul-eq-mul_left (k * k) (mul-pos p p) _ _ big in
-    let a_one : a ≡ 1 = one_part a b d e ef (positive a k f ka fp) coprime small in
-    let b_one : b ≡ 1 = one_part b a e d df (positive b k g kb gp) (gcd_commutes b a ∙ coprime) (sym small) in
+    let a_one : a ≡ 1 = one_part a b d e ef (some_factor a k f ka fp) coprime small in
+    let b_one : b ≡ 1 = one_part b a e d df (some_factor b k g kb gp) (gcd_commutes b a ∙ coprime) (sym small) in
     let same : (a * a) * d ≡ (b * b) * e → d ≡ e = rw (a_one, b_one) (λ q. omega (arith, q)) in
     (sym ka ∙ ap (λ (x : ℕ). k * x) (a_one ∙ sym b_one) ∙ kb, same small)
-  where
-    positive : (b g m : ℕ) → g * b ≡ m → 0 < m → 0 < b
-    positive zero g m q f = omega arith
-    positive (suc b) g m q f = omega arith
 
 pub no_square_of_quotient : NoSquareOfQuotient
 no_square_of_quotient n free a (suc b) e = absurd (no_square_ratio n a (suc b) free (omega arith) e)

@@ -3,6 +3,9 @@ pub mod Pairs
 pub mod RootValues
 pub mod Divisors
 pub mod RatioLemmas
+pub mod Coprime
+pub mod Reductions
+pub mod WholeParts
 pub mod Ordered
 pub mod NumberOrder
 pub mod Order

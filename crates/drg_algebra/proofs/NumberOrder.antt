@@ -5,7 +5,7 @@ use Rattle.std.proofs.lemmas.Int.{ints}
 use Rattle.drg_algebra.specs.Ring.{◌⊗◌, neg, ring2}
 use Rattle.drg_algebra.specs.Integer.{integers, above_times}
 use Rattle.drg_algebra.specs.Rational.{whole, plus, times, minus}
-use Rattle.drg_algebra.specs.Ratio.{ratio, ratio_is, ratio_same, same_ratio, plus_ratio, times_ratio}
+use Rattle.drg_algebra.specs.Ratio.{ratio, one_above, ratio_is, ratio_same, same_ratio, plus_ratio, times_ratio}
 use Rattle.drg_algebra.specs.Reduced.{numerator, denominator, denominator_above, ratio_of_parts}
 use Rattle.drg_algebra.specs.Pairs.{whole_numbers, rational_numbers}
 use Rattle.drg_algebra.specs.Order.{IsOrdered, IsWholeAbove, IsAbove}
@@ -39,9 +39,6 @@ above_ratio m d h k =
     let x = ratio m d in
     let e : numerator x *ℤ d ≡ m *ℤ denominator x = same_ratio (numerator x) (denominator x) m d (denominator_above x) h (ratio_of_parts x) in
     positive_factor (numerator x) d _ h (above_times m (denominator x) k (denominator_above x)) e
-
-one_above : pos 0 <ℤ pos 1
-one_above = record { lt = tt }
 
 pub rationals_ordered : IsOrdered rational_numbers IsAbove
 rationals_ordered = record {

@@ -1,13 +1,13 @@
 -- Ratios and reduced pairs.
 use Rattle.std.proofs.Common.{◌≡◌, zero, suc, refl, ap, sym, ◌∙◌, arith, ℤ, pos, negsuc}
-use Rattle.std.specs.Prelude.{◌*ℤ◌, neg_ℤ, ◌<ℤ◌}
+use Rattle.std.specs.Prelude.{◌*ℤ◌, neg_ℤ}
 use Rattle.std.proofs.Math.Nat.{ℕ_set}
 use Rattle.std.proofs.lemmas.Int.{ints}
 use mathlib.Core.Quot.Quotient.{ind, lift}
 use Rattle.drg_algebra.specs.Ring.{neg, ring2}
 use Rattle.drg_algebra.specs.Integer.{integers}
 use Rattle.drg_algebra.specs.Rational.{ℚ, pairs, minus}
-use Rattle.drg_algebra.specs.Ratio.{ratio, ratio_is, ratio_same, same_ratio}
+use Rattle.drg_algebra.specs.Ratio.{ratio, one_above, ratio_is, ratio_same, same_ratio}
 use Rattle.drg_algebra.specs.Reduced.{common, numerator, denominator, bottom_above, reduced, one_reduced, top_ratio, denominator_above, ratio_of_parts}
 use Rattle.drg_algebra.specs.Fields.{turned}
 use Rattle.drg_algebra.specs.RationalLaws.{EqualByCrossProducts, NegativeOfRatio, InverseOfRatio, SignOfDenominator, PartsAreReduced, DivisionReduces, OneReducedPair}
@@ -31,9 +31,6 @@ sign_of_denominator a (negsuc n) = refl
 pub inverse_of_ratio : InverseOfRatio
 inverse_of_ratio a b h ne = turned a b h (λ e. ne (numerator_nil (same_ratio a b (pos 0) (pos 1) h one_above (e ∙ sym (ratio_is (pos 0) (pos 1) one_above)))))
   where
-    one_above : pos 0 <ℤ pos 1
-    one_above = record { lt = tt }
-
     numerator_nil : a *ℤ pos 1 ≡ pos 0 *ℤ b → a ≡ pos 0
     numerator_nil e = omega (arith, ints)
 

@@ -4,6 +4,18 @@ use Rattle.drg_algebra.specs.Ring.{IsRing, CommutativeRing, none, ◌⊕◌, ◌
 use Rattle.drg_algebra.specs.Tables.{total, delta, list_sum, list_dot}
 use Rattle.drg_algebra.specs.TableLaws.{SumLaws, ListSumLaws}
 
+-- a table with v on the diagonal
+module _ {R : Type 0} (nil v : R) where
+  pub delta_same : (i : ℕ) → delta nil v i i ≡ v
+  delta_same zero = refl
+  delta_same (suc i) = delta_same i
+
+  pub delta_other : (i j : ℕ) → (i ≡ j → ⊥) → delta nil v i j ≡ nil
+  delta_other zero zero f = absurd (f refl)
+  delta_other zero (suc j) f = refl
+  delta_other (suc i) zero f = refl
+  delta_other (suc i) (suc j) f = delta_other i j (λ e. f (ap suc e))
+
 module _ {R : Type 0} {nil unit : R} {plus times : R → R → R} {minus : R → R} (r : IsRing nil unit plus times minus) where
   pub same_sum : (n : ℕ) (a b : ℕ → R) → ((i : ℕ) → i < n → a i ≡ b i) → total nil plus n a ≡ total nil plus n b
   same_sum zero a b h = refl
@@ -48,6 +60,16 @@ module _ {R : Type 0} {nil unit : R} {plus times : R → R → R} {minus : R →
   delta_sum (suc n) (suc l) c h =
       ap₂ plus (ring2 r (λ x y. x ⊗ none) (λ x y. none) refl (c 0) nil) (delta_sum n l (λ i. c (suc i)) (omega arith))
       ∙ ring2 r (λ x y. none ⊕ x) (λ x y. x) refl (c (suc l)) nil
+
+  no_product : (x : R) → times x nil ≡ nil
+  no_product x = ring2 r (λ x y. x ⊗ none) (λ x y. none) refl x x
+
+  -- x times the unit table has x on the diagonal
+  pub scaled_unit : (x : R) (i j : ℕ) → times x (delta nil unit i j) ≡ delta nil x i j
+  scaled_unit x zero zero = r.times_unit x
+  scaled_unit x zero (suc j) = no_product x
+  scaled_unit x (suc i) zero = no_product x
+  scaled_unit x (suc i) (suc j) = scaled_unit x i j
 
   -- the last term of a sum
   pub last_sum : (n : ℕ) (a : ℕ → R) → total nil plus (suc n) a ≡ plus (total nil plus n a) (a n)

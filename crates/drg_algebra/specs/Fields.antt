@@ -7,18 +7,12 @@ use mathlib.Core.Quot.Quotient.{exact}
 use Rattle.drg_algebra.specs.Ring.{IsField, none, one, ◌⊕◌, ◌⊗◌, neg, from_one, ring2, ring3, ring5}
 use Rattle.drg_algebra.specs.Integer.{integers, suc_above, above_times}
 use Rattle.drg_algebra.specs.Rational.{ℚ, pairs as cross_pairs, cross_prop, whole, plus, times, minus, rationals}
-use Rattle.drg_algebra.specs.Ratio.{ratio, ratio_is, ratio_same, same_ratio, times_ratio}
+use Rattle.drg_algebra.specs.Ratio.{ratio, one_above, ratio_one, ratio_same, same_ratio, times_ratio}
 use Rattle.drg_algebra.specs.Reduced.{numerator, denominator, denominator_above, ratio_of_parts}
 use Rattle.drg_algebra.specs.Pairs.{Pair, pair_path, product_a, product_b, pairs, norm, rational_numbers, root_values}
 use Rattle.drg_algebra.specs.Root.{IsSquarefree, only_zeros}
 
 -- ---- the rationals
-ratio_one : (v : ℤ) → ratio v (pos 1) ≡ whole v
-ratio_one v = ratio_is v (pos 1) (record { lt = tt })
-
-one_above : pos 0 <ℤ pos 1
-one_above = record { lt = tt }
-
 -- the inverse of n / d is d / n
 unfoldable pub invert : ℚ → ℚ
 invert x = ratio (denominator x) (numerator x)

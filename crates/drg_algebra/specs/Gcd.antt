@@ -1,8 +1,8 @@
 -- The greatest common divisor as a function, and Euclid's lemma.
-use Rattle.std.proofs.Common.{◌≡◌, ℕ, zero, suc, ◌+◌, ◌*◌, ◌/◌, ◌%◌, ◌<◌, refl, ap, sym, ◌∙◌, subst, arith}
+use Rattle.std.proofs.Common.{◌≡◌, ℕ, zero, suc, ◌+◌, ◌*◌, ◌/◌, ◌%◌, ◌<◌, refl, ap, ap₂, sym, ◌∙◌, subst, arith}
 use Rattle.std.specs.Int.{IsGcd, ◌∣◌}
 use Rattle.std.proofs.lemmas.Nat.Gcd.{IsGcd-from_zero, IsGcd-from_mod, same_from_IsGcd, le_of_dvd}
-use native.Mathlib.Nat.{mod-lt, mod-eq_of_lt, div-add-mod, mul-add-mod_self_left, mul-lt-mul_of_pos_left, mul-one, dvd-mul_left}
+use native.Mathlib.Nat.{mod-lt, mod-eq_of_lt, div-add-mod, mul-add-mod_self_left, mul-lt-mul_of_pos_left, mul-one, mul-div_cancel', eq_of_mul-eq-mul_left, pos_of_dvd_of_pos, dvd-mul_left}
 
 -- Euclid's steps, at most as many as the first number says
 unfoldable pub euclid : ℕ → ℕ → ℕ → ℕ
@@ -59,6 +59,20 @@ euclids_lemma d a b some e h =
     let both : d ∣ gcd_of (b * a) (b * d) = (gcd_is (b * a) (b * d)).2 d h (dvd-mul_left d b) in
     let is : gcd_of (b * a) (b * d) ≡ b = gcd_times b a d some ∙ ap (λ n. b * n) e ∙ mul-one b in
     subst (λ n. d ∣ n) is both
+
+-- a factor of a positive product is positive
+pub some_factor : (b g m : ℕ) → g * b ≡ m → 0 < m → 0 < b
+some_factor zero g m e h = omega arith
+some_factor (suc b) g m e h = omega arith
+
+-- both divided by it have no divisor in common
+pub divided_coprime : (a b : ℕ) → 0 < b → gcd_of (a / gcd_of a b) (b / gcd_of a b) ≡ 1
+divided_coprime a b h =
+    let g = gcd_of a b in
+    let some : 0 < g = pos_of_dvd_of_pos (gcd_is a b).1 h in
+    let left : g * (a / g) ≡ a = mul-div_cancel' g (gcd_is a b).0 in
+    let right : g * (b / g) ≡ b = mul-div_cancel' g (gcd_is a b).1 in
+    eq_of_mul-eq-mul_left g some _ _ (sym (gcd_times g (a / g) (b / g) some) ∙ ap₂ gcd_of left right ∙ sym (mul-one g))
 
 -- it is below each bound of both numbers
 pub gcd_below : (a b m : ℕ) → a < m → b < m → gcd_of a b < m

@@ -7,6 +7,7 @@ use native.Mathlib.Nat.{mul-div_cancel'}
 use borrow.Author.Differences.{up, down, product_is, same_in, neg_is}
 use mathlib.Core.Quot.Quotient.{mk, sound, exact, lift₂}
 use Rattle.drg_algebra.specs.Integer.{above_times, suc_above}
+use Rattle.drg_algebra.specs.Gcd.{some_factor}
 use Rattle.drg_algebra.specs.Rational.{cross_prop, pairs, ℚ, whole, plus, times}
 
 -- n / d: 0 where d is 0, and -n / -d where d is negative
@@ -21,6 +22,13 @@ unfolding ratio
 ratio_is n (pos zero) h = absurd (omega (arith, ints))
 ratio_is n (pos (suc k)) h = sound pairs refl
 ratio_is n (negsuc k) h = absurd (omega (arith, ints))
+
+-- and over 1 it is the whole number
+pub one_above : pos 0 <ℤ pos 1
+one_above = record { lt = tt }
+
+pub ratio_one : (n : ℤ) → ratio n (pos 1) ≡ whole n
+ratio_one n = ratio_is n (pos 1) one_above
 
 -- two ratios are the same exactly where their cross products are
 pub ratio_same : (a b c d : ℤ) → pos 0 <ℤ b → pos 0 <ℤ d → a *ℤ d ≡ c *ℤ b → ratio a b ≡ ratio c d
@@ -58,10 +66,6 @@ div_above (pos zero) g h k = absurd (omega (arith, ints))
 div_above (pos (suc n)) zero h k = absurd (omega (arith, mul-div_cancel' 0 k))
 div_above (pos (suc n)) (suc g) h k =
     let e : suc g * (suc n / suc g) ≡ suc n = mul-div_cancel' (suc g) k in
-    let some : 0 < suc n / suc g = some_from (suc n / suc g) (suc g) (suc n) e (omega arith) in
+    let some : 0 < suc n / suc g = some_factor (suc n / suc g) (suc g) (suc n) e (omega arith) in
     omega (arith, ints)
-  where
-    some_from : (q a b : ℕ) → a * q ≡ b → 0 < b → 0 < q
-    some_from zero a b e h = omega arith
-    some_from (suc q) a b e h = omega arith
 div_above (negsuc n) g h k = absurd (omega (arith, ints))

@@ -107,7 +107,8 @@ pub denominator_above : (x : ℚ) → pos 0 <ℤ denominator x
 unfolding denominator lift
 denominator_above = ind pairs {motive = λ x. pos 0 <ℤ denominator x} (λ x. above_prop (denominator x)) (λ p. bottom_above p.over p.under p.above)
 
-by_one : (n : ℤ) → int_div n (pos 1) ≡ n
+-- division by 1 changes nothing
+pub by_one : (n : ℤ) → int_div n (pos 1) ≡ n
 by_one (pos n) = ap pos (omega arith)
 by_one (negsuc n) = let e : suc n / 1 ≡ suc n = omega arith in ap (λ x. neg_ℤ (pos x)) e
 

@@ -1,13 +1,13 @@
 -- Squarefree numbers: one above 1 is no square of a rational.
-use Rattle.std.proofs.Common.{◌≡◌, ℕ, zero, suc, ◌*◌, ◌/◌, ◌<◌, ◌≤◌, refl, ap, ap₂, sym, ◌∙◌, subst, subst₂, arith, ℤ, pos, negsuc}
+use Rattle.std.proofs.Common.{◌≡◌, ℕ, zero, suc, ◌*◌, ◌/◌, ◌<◌, ◌≤◌, refl, ap, sym, ◌∙◌, subst, subst₂, arith, ℤ, pos, negsuc}
 use Rattle.std.specs.Prelude.{◌*ℤ◌, unsigned_abs}
 use Rattle.std.specs.Int.{◌∣◌}
 use Rattle.std.proofs.lemmas.Int.{ints, unsigned_abs-mul}
 use Rattle.std.proofs.lemmas.Nat.Gcd.{dvd_refl, le_of_dvd}
-use native.Mathlib.Nat.{mul-one, dvd-mul_left, mul-div_cancel', eq_of_mul-eq-mul_left, pos_of_dvd_of_pos, mul-pos}
+use native.Mathlib.Nat.{dvd-mul_left, mul-div_cancel', eq_of_mul-eq-mul_left, pos_of_dvd_of_pos, mul-pos}
 use mathlib.Core.Quot.Quotient.{mk, sound, exact, ind₂, lift₂}
 use Rattle.drg_algebra.specs.Rational.{Pair, cross_prop, pairs, ℚ, ℚ_set, whole, times}
-use Rattle.drg_algebra.specs.Gcd.{gcd_of, gcd_is, gcd_times, euclids_lemma}
+use Rattle.drg_algebra.specs.Gcd.{gcd_of, gcd_is, some_factor, divided_coprime, euclids_lemma}
 use Rattle.drg_algebra.specs.Reduced.{abs_above}
 
 -- no square above 1 divides it
@@ -32,17 +32,13 @@ no_square_ratio root n m free h e =
     let b = m / g in
     let ga : g * a ≡ n = mul-div_cancel' g (gcd_is n m).0 in
     let gb : g * b ≡ m = mul-div_cancel' g (gcd_is n m).1 in
-    let coprime : gcd_of a b ≡ 1 = eq_of_mul-eq-mul_left g p _ _ (sym (gcd_times g a b p) ∙ ap₂ gcd_of ga gb ∙ sym (mul-one g)) in
+    let coprime : gcd_of a b ≡ 1 = divided_coprime n m h in
     let big_e : (g * g) * (a * a) ≡ (g * g) * (root * (b * b)) =
     subst₂ (λ (x y : ℕ). x * x ≡ root * (y * y) → (g * g) * (a * a) ≡ (g * g) * (root * (b * b))) ga gb (λ q. omega (arith, q)) e in
     let small_e : a * a ≡ root * (b * b) = eq_of_mul-eq-mul_left (g * g) (mul-pos p p) _ _ big_e in
-    let b_some : 0 < b = positive b g m gb h in
+    let b_some : 0 < b = some_factor b g m gb h in
     coprime_case root a b free b_some (some_left a b root free small_e b_some) coprime small_e
   where
-    positive : (b g m : ℕ) → g * b ≡ m → 0 < m → 0 < b
-    positive zero g m q f = omega arith
-    positive (suc b) g m q f = omega arith
-
     some_left : (a b root : ℕ) → ((k : ℕ) → ¬ (k * k ≡ root)) → a * a ≡ root * (b * b) → 0 < b → 0 < a
     some_left (suc a) b root free q h = omega arith
     some_left zero zero root free q h = h

@@ -3,9 +3,9 @@ use Rattle.std.proofs.Common.{◌≡◌, ℕ, zero, suc, ◌≤◌, ◌<◌, [],
 use Rattle.std.specs.Prelude.{ℤ, pos, negsuc, ◌+ℤ◌, ◌-ℤ◌, ◌*ℤ◌, neg_ℤ, ◌==◌}
 use Rattle.drg_algebra.specs.Sums.{bit}
 use Rattle.std.proofs.lemmas.Int.{ints}
-use mathlib.Core.Quot.Quotient.{exact}
-use Rattle.drg_algebra.specs.Rational.{ℚ, pairs, cross_prop, whole, plus, times, minus}
+use Rattle.drg_algebra.specs.Rational.{ℚ, whole, plus, times, minus}
 use Rattle.drg_algebra.proofs.Maps.{whole_map}
+use Rattle.drg_algebra.proofs.WholeParts.{same_whole}
 use Rattle.drg_array.specs.Entries.{Entries, b_at, c_at, a_at}
 use Rattle.drg_array.specs.Numbers.{size, before, numerator, AreIntersectionNumbers}
 use Rattle.drg_array.specs.Examples.{petersen, PetersenSizes, PetersenNumbers, SizeOfFiveFour, NumberOfFourOne}
@@ -16,9 +16,6 @@ times-is x y = sym (whole_map.times x y)
 
 plus-is : (x y : ℤ) → plus (whole x) (whole y) ≡ whole (x +ℤ y)
 plus-is x y = sym (whole_map.plus x y)
-
-same_whole : (x y : ℤ) → whole x ≡ whole y → x ≡ y
-same_whole x y e = let cross : x *ℤ pos 1 ≡ y *ℤ pos 1 = exact pairs cross_prop e in omega (arith, ints)
 
 -- ---- whole sizes
 next-times : (a : Entries) (i : ℕ) → 1 ≤ c_at a (suc i) → times (whole (pos (c_at a (suc i)))) (size a (suc i)) ≡ times (size a i) (whole (pos (b_at a i)))

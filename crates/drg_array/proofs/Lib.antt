@@ -1,5 +1,6 @@
 pub mod EntryLemmas
 pub mod NumberLaws
+pub mod SizeSigns
 mod Steps
 mod Takes
 mod Prefixes

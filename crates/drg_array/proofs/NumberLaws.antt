@@ -3,7 +3,7 @@ use Rattle.std.proofs.Common.{◌≡◌, ℕ, zero, suc, ◌≤◌, refl, sym, s
 use Rattle.std.specs.Prelude.{pos, ◌==◌}
 use Rattle.std.proofs.lemmas.Int.{ints}
 use Rattle.drg_algebra.specs.Sums.{bit}
-use Rattle.drg_algebra.specs.Ring.{none, one, ◌⊗◌}
+use Rattle.drg_algebra.specs.Ring.{one, ◌⊗◌}
 use Rattle.drg_algebra.specs.Integer.{suc_above, above_times, ring2}
 use Rattle.drg_algebra.specs.Rational.{ℚ, whole, plus, times, minus, rationals}
 use Rattle.drg_algebra.specs.Ratio.{ratio, ratio_is, ratio_same, times_ratio}
@@ -11,6 +11,7 @@ use Rattle.drg_algebra.specs.Fields.{rational_field}
 use Rattle.drg_algebra.proofs.Tests.{decided, same-number, differ}
 use Rattle.drg_algebra.proofs.Tables.{cancel_left}
 use Rattle.drg_algebra.proofs.Maps.{whole_apart}
+use Rattle.drg_algebra.proofs.WholeParts.{zero_times}
 use Rattle.drg_array.specs.Entries.{Entries, IsArray, diameter, b_at, c_at, a_at}
 use Rattle.drg_array.specs.Numbers.{share, size, before, numerator, AreIntersectionNumbers}
 use Rattle.drg_array.specs.NumberLaws.{SizesMeet, NumbersExist, OneNumber}
@@ -29,9 +30,6 @@ pub share-back : (n : ℕ) (x : ℚ) → 1 ≤ n → times (whole (pos n)) (shar
 share-back n x positive =
     sym (rationals.times_assoc (whole (pos n)) (ratio (pos 1) (pos n)) x)
     ∙ (ap (λ z. times z x) (share-unit n positive) ∙ ring2 rationals (λ x y. one ⊗ x) (λ x y. x) refl x x)
-
-zero-times : (x : ℚ) → times (whole (pos 0)) x ≡ whole (pos 0)
-zero-times x = ring2 rationals (λ x y. none ⊗ x) (λ x y. none) refl x x
 
 -- a factor that isn't 0 is cancelled
 pub cancel-whole : (c : ℕ) (x y : ℚ) → 1 ≤ c → times (whole (pos c)) x ≡ times (whole (pos c)) y → x ≡ y
@@ -81,7 +79,7 @@ module _ (a : Entries) (array : IsArray a) where
       elim (decided (j == diameter a)) [
         | inl end ↦ (let at = same-number j (diameter a) end in
             let none : c_at a (suc j) ≡ 0 = c-end a j array (omega (arith, at)) in
-            rw none (zero-times (p (suc j)) ∙ sym (zero-times (q (suc j)))))
+            rw none (zero_times (p (suc j)) ∙ sym (zero_times (q (suc j)))))
         | inr inside ↦ (let apart = differ j (diameter a) inside in
             ap (times (whole (pos (c_at a (suc j))))) (same (suc j) (omega (arith, h, apart))))
       ]

@@ -5,19 +5,13 @@ use Rattle.std.specs.Int.{◌∣◌}
 use Rattle.std.proofs.lemmas.Int.{ints, unsigned_abs-mul}
 use Rattle.std.proofs.lemmas.Nat.Gcd.{dvd_of_mod-eq-zero, mod-eq-zero_of_dvd}
 use Rattle.std.proofs.Math.Nat.{dvd-mul_right}
-use mathlib.Core.Quot.Quotient.{exact}
 use Rattle.drg_algebra.specs.Ring.{◌⊗◌}
 use Rattle.drg_algebra.specs.Integer.{integers, ring3}
-use Rattle.drg_algebra.specs.Rational.{ℚ, pairs, cross_prop, whole}
-use Rattle.drg_algebra.specs.Ratio.{ratio, ratio_is, ratio_same, same_ratio, div_exact}
+use Rattle.drg_algebra.specs.Rational.{ℚ, whole}
+use Rattle.drg_algebra.specs.Ratio.{ratio, one_above, ratio_one, ratio_same, same_ratio, div_exact}
 use Rattle.drg_algebra.specs.Reduced.{numerator, denominator, denominator_above, ratio_of_parts, abs_pos}
+use Rattle.drg_algebra.proofs.WholeParts.{same_whole}
 use Rattle.drg_array.specs.Numbers.{IsWhole, IsWholeMultiple, IsNatural}
-
-one_above : pos 0 <ℤ pos 1
-one_above = record { lt = tt }
-
-ratio_one : (z : ℤ) → ratio z (pos 1) ≡ whole z
-ratio_one z = ratio_is z (pos 1) one_above
 
 -- num / k is n times q where num is n k times q
 multiple : (n k : ℕ) (num den q : ℤ) → pos 0 <ℤ den → den ≡ pos k → pos (n * k) *ℤ q ≡ num → ratio num den ≡ whole (pos n *ℤ q)
@@ -49,9 +43,6 @@ multiple_told n x = go (unsigned_abs (numerator x) % (n * k)) refl
         inl (q, sym (ratio_of_parts x) ∙ multiple n k (numerator x) (denominator x) q (denominator_above x) is (div_exact (numerator x) (n * k) (dvd_of_mod-eq-zero (n * k) e)))
     go (suc r) e =
         inr (λ (m, h). (let zero_rest = divides n k (numerator x) (denominator x) m (denominator_above x) is (ratio_of_parts x ∙ h) in absurd (omega (arith, e, zero_rest))))
-
-same_whole : (x y : ℤ) → whole x ≡ whole y → x ≡ y
-same_whole x y e = let cross : x *ℤ pos 1 ≡ y *ℤ pos 1 = exact pairs cross_prop e in omega (arith, ints)
 
 pub natural_told : (x : ℚ) → IsNatural x ⊎ ¬ IsNatural x
 natural_told x = go (multiple_told 1 x)

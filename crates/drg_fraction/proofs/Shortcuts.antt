@@ -1,38 +1,15 @@
 -- Sums and products of whole numbers and with 0, and squares: their work numbers and values without a common divisor.
-use Rattle.std.proofs.Common.{◌≡◌, ◌<ℤ◌, ◌*◌, ℤ, pos, unsigned_abs, int_div, Bool, true, ◌&&◌, [], ◌∷◌, refl, ap, ap₂, sym, ◌∙◌, arith}
+use Rattle.std.proofs.Common.{◌≡◌, ◌<ℤ◌, ℤ, pos, unsigned_abs, int_div, Bool, true, ◌&&◌, [], ◌∷◌, ap, ap₂, sym, ◌∙◌, arith}
 use Rattle.std.specs.Prelude.{◌+ℤ◌, ◌*ℤ◌}
-use Rattle.std.proofs.Math.Nat.{one-dvd}
-use Rattle.std.proofs.lemmas.Bool.{lt-ltb}
-use Rattle.std.proofs.lemmas.Nat.Gcd.{dvd_refl, dvd-zero}
-use Rattle.std.proofs.lemmas.Int.{ints, unsigned_abs-mul}
-use Rattle.drg_algebra.specs.Ring.{none, ◌⊗◌, ring2}
-use Rattle.drg_algebra.specs.Integer.{integers, cancel_above}
-use Rattle.drg_algebra.specs.Gcd.{gcd_of, gcd_zero}
+use Rattle.std.proofs.lemmas.Int.{ints}
 use Rattle.drg_algebra.specs.Rational.{ℚ, whole, plus, times, rationals}
-use Rattle.drg_algebra.specs.Ratio.{ratio, times_ratio, div_exact}
-use Rattle.drg_algebra.specs.Reduced.{common, abs_pos}
-use Rattle.drg_algebra.proofs.Divisors.{gcd_commutes, coprime_to_product}
+use Rattle.drg_algebra.specs.Ratio.{ratio, ratio_one, times_ratio}
+use Rattle.drg_algebra.specs.Reduced.{common, by_one}
 use Rattle.drg_algebra.proofs.Maps.{whole_map}
-use Rattle.drg_fraction.specs.Work.{InRange, in_range, all_fit, sum_work, product_work}
-use Rattle.drg_fraction.proofs.Parts.{whole_reduced, ratio_one}
-
-pub fits : (z : ℤ) → InRange z → in_range z ≡ true
-fits z h = lt-ltb _ _ h
-
-by_one : (n : ℤ) → int_div n (pos 1) ≡ n
-by_one n = once (int_div n (pos 1)) ∙ div_exact n 1 (one-dvd (unsigned_abs n))
-  where
-    once : (m : ℤ) → m ≡ pos 1 *ℤ m
-    once m = omega (arith, ints)
-
-one_reduced : (n : ℤ) → common (pos 1) n ≡ 1
-one_reduced n = gcd_commutes 1 (unsigned_abs n) ∙ whole_reduced n
-
--- 0 in lowest terms is 0/1
-pub zero_over_one : (a b : ℤ) → a ≡ pos 0 → pos 0 <ℤ b → common a b ≡ 1 → b ≡ pos 1
-zero_over_one a b e h r =
-    let size : unsigned_abs b ≡ 1 = sym (gcd_commutes 0 (unsigned_abs b) ∙ gcd_zero (unsigned_abs b)) ∙ ap (λ n. common n b) (sym e) ∙ r in
-    sym (abs_pos b h) ∙ ap pos size
+use Rattle.drg_algebra.proofs.WholeParts.{whole_reduced, one_reduced, zero_times, zero_ratio, zero_over_one, divisor_of_zero, divided_by_itself, zero_divided}
+use Rattle.drg_whole.specs.Range.{InRange, in_range}
+use Rattle.drg_whole.proofs.Ranges.{fits}
+use Rattle.drg_fraction.specs.Work.{all_fit, sum_work, product_work}
 
 -- the tests of four numbers, of which one decides
 all_four : (u v x y : ℤ) → InRange u → InRange v → InRange y → all_fit (u ∷ v ∷ x ∷ y ∷ []) ≡ in_range x
@@ -46,6 +23,9 @@ small = omega arith
 
 nothing : InRange (pos 0)
 nothing = omega arith
+
+nil_ratio : (a b : ℤ) → a ≡ pos 0 → pos 0 <ℤ b → ratio a b ≡ whole (pos 0)
+nil_ratio a b e h = ap (λ n. ratio n b) e ∙ zero_ratio b h
 
 -- ---- sums
 whole_sum_work : (a c : ℤ) → sum_work a (pos 1) c (pos 1) ≡ a ∷ c ∷ (a +ℤ c) ∷ pos 1 ∷ []
@@ -85,8 +65,8 @@ pub zero_left_fits : (a b c d : ℤ) → a ≡ pos 0 → pos 0 <ℤ b → common
 zero_left_fits a b c d e h r k l =
     ap₂ (λ x y. all_fit (sum_work x y c d)) e (zero_over_one a b e h r) ∙ ap all_fit (zero_left_work c d) ∙ all_four (pos 0) c c d nothing k l ∙ fits c k
 
-pub zero_left_is : (a b : ℤ) (q : ℚ) → a ≡ pos 0 → pos 0 <ℤ b → common a b ≡ 1 → q ≡ plus (ratio a b) q
-zero_left_is a b q e h r = sym (ap (λ x. plus x q) (ap₂ ratio e (zero_over_one a b e h r) ∙ ratio_one (pos 0)) ∙ rationals.plus_comm (whole (pos 0)) q ∙ rationals.plus_nil q)
+pub zero_left_is : (a b : ℤ) (q : ℚ) → a ≡ pos 0 → pos 0 <ℤ b → q ≡ plus (ratio a b) q
+zero_left_is a b q e h = sym (ap (λ x. plus x q) (nil_ratio a b e h) ∙ rationals.plus_comm (whole (pos 0)) q ∙ rationals.plus_nil q)
 
 zero_right_work : (a b : ℤ) → sum_work a b (pos 0) (pos 1) ≡ a ∷ pos 0 ∷ a ∷ b ∷ []
 zero_right_work a b =
@@ -107,8 +87,8 @@ pub zero_right_fits : (a b c d : ℤ) → c ≡ pos 0 → pos 0 <ℤ d → commo
 zero_right_fits a b c d e h r k l =
     ap₂ (λ x y. all_fit (sum_work a b x y)) e (zero_over_one c d e h r) ∙ ap all_fit (zero_right_work a b) ∙ all_four a (pos 0) a b k nothing l ∙ fits a k
 
-pub zero_right_is : (c d : ℤ) (q : ℚ) → c ≡ pos 0 → pos 0 <ℤ d → common c d ≡ 1 → q ≡ plus q (ratio c d)
-zero_right_is c d q e h r = sym (ap (plus q) (ap₂ ratio e (zero_over_one c d e h r) ∙ ratio_one (pos 0)) ∙ rationals.plus_nil q)
+pub zero_right_is : (c d : ℤ) (q : ℚ) → c ≡ pos 0 → pos 0 <ℤ d → q ≡ plus q (ratio c d)
+zero_right_is c d q e h = sym (ap (plus q) (nil_ratio c d e h) ∙ rationals.plus_nil q)
 
 -- ---- products
 all_two : (x y : ℤ) → InRange y → all_fit (x ∷ y ∷ []) ≡ in_range x
@@ -128,36 +108,10 @@ whole_product_fits a b c d e f = ap₂ (λ x y. all_fit (product_work a x c y)) 
 pub whole_product_is : (a b c d : ℤ) → b ≡ pos 1 → d ≡ pos 1 → whole (a *ℤ c) ≡ times (ratio a b) (ratio c d)
 whole_product_is a b c d e f = whole_map.times a c ∙ sym (ap₂ times (ap (ratio a) e ∙ ratio_one a) (ap (ratio c) f ∙ ratio_one c))
 
--- a positive number, and 0, divided by its size
-by_itself : (d : ℤ) → pos 0 <ℤ d → int_div d (pos (unsigned_abs d)) ≡ pos 1
-by_itself d h =
-    cancel_above (int_div d (pos (unsigned_abs d))) (pos 1) d h
-    (ap (λ n. int_div d (pos (unsigned_abs d)) *ℤ n) (sym (abs_pos d h))
-    ∙ integers.times_comm (int_div d (pos (unsigned_abs d))) (pos (unsigned_abs d))
-    ∙ div_exact d (unsigned_abs d) (dvd_refl (unsigned_abs d))
-    ∙ once d)
-  where
-    once : (m : ℤ) → m ≡ pos 1 *ℤ m
-    once m = omega (arith, ints)
-
-zero_divided : (d : ℤ) → pos 0 <ℤ d → int_div (pos 0) (pos (unsigned_abs d)) ≡ pos 0
-zero_divided d h =
-    cancel_above (int_div (pos 0) (pos (unsigned_abs d))) (pos 0) d h
-    (ap (λ n. int_div (pos 0) (pos (unsigned_abs d)) *ℤ n) (sym (abs_pos d h))
-    ∙ integers.times_comm (int_div (pos 0) (pos (unsigned_abs d))) (pos (unsigned_abs d))
-    ∙ div_exact (pos 0) (unsigned_abs d) (dvd-zero (unsigned_abs d))
-    ∙ none_of d)
-  where
-    none_of : (m : ℤ) → pos 0 ≡ pos 0 *ℤ m
-    none_of m = omega (arith, ints)
-
-divisor_of_zero : (d : ℤ) → common (pos 0) d ≡ unsigned_abs d
-divisor_of_zero d = gcd_commutes 0 (unsigned_abs d) ∙ gcd_zero (unsigned_abs d)
-
 zero_by_any_work : (c d : ℤ) → pos 0 <ℤ d → product_work (pos 0) (pos 1) c d ≡ pos 0 ∷ pos 1 ∷ []
 zero_by_any_work c d h =
     ap₂ (λ g f. (int_div (pos 0) (pos g) *ℤ int_div c (pos f)) ∷ (int_div (pos 1) (pos f) *ℤ int_div d (pos g)) ∷ []) (divisor_of_zero d) (whole_reduced c)
-    ∙ ap₂ (λ x y. (x *ℤ int_div c (pos 1)) ∷ (pos 1 *ℤ y) ∷ []) (zero_divided d h) (by_itself d h)
+    ∙ ap₂ (λ x y. (x *ℤ int_div c (pos 1)) ∷ (pos 1 *ℤ y) ∷ []) (zero_divided (unsigned_abs d)) (divided_by_itself d h)
     ∙ ap (λ x. x ∷ pos 1 ∷ []) (none_of (int_div c (pos 1)))
   where
     none_of : (m : ℤ) → pos 0 *ℤ m ≡ pos 0
@@ -166,7 +120,7 @@ zero_by_any_work c d h =
 any_by_zero_work : (a b : ℤ) → pos 0 <ℤ b → product_work a b (pos 0) (pos 1) ≡ pos 0 ∷ pos 1 ∷ []
 any_by_zero_work a b h =
     ap₂ (λ g f. (int_div a (pos g) *ℤ int_div (pos 0) (pos f)) ∷ (int_div b (pos f) *ℤ int_div (pos 1) (pos g)) ∷ []) (whole_reduced a) (divisor_of_zero b)
-    ∙ ap₂ (λ x y. (int_div a (pos 1) *ℤ x) ∷ (y *ℤ pos 1) ∷ []) (zero_divided b h) (by_itself b h)
+    ∙ ap₂ (λ x y. (int_div a (pos 1) *ℤ x) ∷ (y *ℤ pos 1) ∷ []) (zero_divided (unsigned_abs b)) (divided_by_itself b h)
     ∙ ap (λ x. x ∷ pos 1 ∷ []) (none_of (int_div a (pos 1)))
   where
     none_of : (m : ℤ) → m *ℤ pos 0 ≡ pos 0
@@ -181,16 +135,13 @@ zero_by_any_fits a b c d e h r k = ap₂ (λ x y. all_fit (product_work x y c d)
 pub any_by_zero_fits : (a b c d : ℤ) → c ≡ pos 0 → pos 0 <ℤ d → common c d ≡ 1 → pos 0 <ℤ b → all_fit (product_work a b c d) ≡ true
 any_by_zero_fits a b c d e h r k = ap₂ (λ x y. all_fit (product_work a b x y)) e (zero_over_one c d e h r) ∙ ap all_fit (any_by_zero_work a b k) ∙ zero_fits
 
-zero_ratio : (a b : ℤ) → a ≡ pos 0 → pos 0 <ℤ b → common a b ≡ 1 → ratio a b ≡ whole (pos 0)
-zero_ratio a b e h r = ap₂ ratio e (zero_over_one a b e h r) ∙ ratio_one (pos 0)
+pub zero_by_any_is : (a b : ℤ) (q : ℚ) → a ≡ pos 0 → pos 0 <ℤ b → ratio a b ≡ times (ratio a b) q
+zero_by_any_is a b q e h =
+    let zero = nil_ratio a b e h in
+    zero ∙ sym (zero_times q) ∙ ap (λ x. times x q) (sym zero)
 
-pub zero_by_any_is : (a b : ℤ) (q : ℚ) → a ≡ pos 0 → pos 0 <ℤ b → common a b ≡ 1 → ratio a b ≡ times (ratio a b) q
-zero_by_any_is a b q e h r =
-    let zero = zero_ratio a b e h r in
-    zero ∙ ring2 rationals (λ x y. none) (λ x y. none ⊗ x) refl q q ∙ ap (λ x. times x q) (sym zero)
-
-pub any_by_zero_is : (c d : ℤ) (q : ℚ) → c ≡ pos 0 → pos 0 <ℤ d → common c d ≡ 1 → ratio c d ≡ times q (ratio c d)
-any_by_zero_is c d q e h r = zero_by_any_is c d q e h r ∙ rationals.times_comm (ratio c d) q
+pub any_by_zero_is : (c d : ℤ) (q : ℚ) → c ≡ pos 0 → pos 0 <ℤ d → ratio c d ≡ times q (ratio c d)
+any_by_zero_is c d q e h = zero_by_any_is c d q e h ∙ rationals.times_comm (ratio c d) q
 
 -- ---- squares
 square_work : (a b : ℤ) → common a b ≡ 1 → product_work a b a b ≡ (a *ℤ a) ∷ (b *ℤ b) ∷ []
@@ -200,13 +151,6 @@ square_work a b r =
 
 pub square_fits : (a b : ℤ) → common a b ≡ 1 → all_fit (product_work a b a b) ≡ all_fit ((a *ℤ a) ∷ (b *ℤ b) ∷ [])
 square_fits a b r = ap all_fit (square_work a b r)
-
-pub square_reduced : (a b : ℤ) → common a b ≡ 1 → common (a *ℤ a) (b *ℤ b) ≡ 1
-square_reduced a b r =
-    let x = unsigned_abs a in
-    let y = unsigned_abs b in
-    let xy : gcd_of (y * y) x ≡ 1 = gcd_commutes (y * y) x ∙ coprime_to_product x y y r r in
-    ap₂ gcd_of (unsigned_abs-mul a a) (unsigned_abs-mul b b) ∙ gcd_commutes (x * x) (y * y) ∙ coprime_to_product (y * y) x x xy xy
 
 pub square_is : (a b : ℤ) → pos 0 <ℤ b → ratio (a *ℤ a) (b *ℤ b) ≡ times (ratio a b) (ratio a b)
 square_is a b h = sym (times_ratio a b a b h h)

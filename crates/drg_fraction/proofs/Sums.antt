@@ -1,31 +1,28 @@
--- The sum of two ratios over the least common denominator.
-use Rattle.std.proofs.Common.{◌≡◌, ◌<ℤ◌, ℤ, pos, unsigned_abs, int_div, refl, ap, ap₂, sym, ◌∙◌, subst₂, ◌&&◌, [], ◌∷◌, arith}
+-- The work numbers of a sum and of a difference.
+use Rattle.std.proofs.Common.{◌≡◌, ◌<ℤ◌, ℤ, pos, unsigned_abs, int_div, refl, ap, ap₂, sym, ◌∙◌, ◌&&◌, [], ◌∷◌, arith}
 use Rattle.std.specs.Prelude.{◌+ℤ◌, ◌-ℤ◌, ◌*ℤ◌, neg_ℤ, nat_lt, ◌^◌}
 use Rattle.std.proofs.lemmas.Int.{ints}
-use Rattle.drg_algebra.specs.Ring.{◌⊕◌, ◌⊗◌, neg, ring2, ring6}
-use Rattle.drg_algebra.specs.Integer.{integers, above_times}
-use Rattle.drg_algebra.specs.Rational.{ℚ, plus, minus}
-use Rattle.drg_algebra.specs.Gcd.{gcd_is}
-use Rattle.drg_algebra.specs.Ratio.{ratio, ratio_same, plus_ratio, div_exact, div_above}
-use Rattle.drg_algebra.specs.Reduced.{common, numerator, denominator}
-use Rattle.drg_fraction.specs.Work.{in_range, all_fit, sum_work, difference_work, fits_at, sum_fits, difference_fits}
-use Rattle.drg_fraction.proofs.Parts.{abs_turned, numerator_minus, denominator_minus}
+use Rattle.drg_algebra.specs.Ring.{◌⊗◌, neg, ring2}
+use Rattle.drg_algebra.specs.Integer.{integers}
+use Rattle.drg_algebra.specs.Rational.{ℚ, minus}
+use Rattle.drg_algebra.specs.Reduced.{common, top, bottom, numerator, denominator}
+use Rattle.drg_algebra.proofs.Coprime.{sum_divisor}
+use Rattle.drg_algebra.proofs.WholeParts.{abs_turned, numerator_minus, denominator_minus}
+use Rattle.drg_whole.specs.Range.{in_range}
+use Rattle.drg_fraction.specs.Work.{all_fit, sum_work, difference_work, fits_at, sum_fits, difference_fits}
 
-module _ (a b c d : ℤ) (h : pos 0 <ℤ b) (k : pos 0 <ℤ d) where
-  pub sum_under_above : pos 0 <ℤ (b *ℤ int_div d (pos (common b d)))
-  sum_under_above = above_times b _ h (div_above d (common b d) k (gcd_is (unsigned_abs b) (unsigned_abs d)).1)
-
-  pub sum_is : ratio (a *ℤ int_div d (pos (common b d)) +ℤ c *ℤ int_div b (pos (common b d))) (b *ℤ int_div d (pos (common b d))) ≡ plus (ratio a b) (ratio c d)
-  sum_is =
-      let g = pos (common b d) in
-      let p = int_div b g in
-      let q = int_div d g in
-      let gp : g *ℤ p ≡ b = div_exact b (common b d) (gcd_is (unsigned_abs b) (unsigned_abs d)).0 in
-      let gq : g *ℤ q ≡ d = div_exact d (common b d) (gcd_is (unsigned_abs b) (unsigned_abs d)).1 in
-      ratio_same _ _ _ _ sum_under_above (above_times b d h k)
-      (subst₂ (λ (x y : ℤ). (a *ℤ q +ℤ c *ℤ p) *ℤ (x *ℤ y) ≡ (a *ℤ y +ℤ c *ℤ x) *ℤ (x *ℤ q)) gp gq
-      (ring6 integers (λ a c g p q z. (a ⊗ q ⊕ c ⊗ p) ⊗ ((g ⊗ p) ⊗ (g ⊗ q))) (λ a c g p q z. (a ⊗ (g ⊗ q) ⊕ c ⊗ (g ⊗ p)) ⊗ ((g ⊗ p) ⊗ q)) refl a c g p q a))
-      ∙ sym (plus_ratio a b c d h k)
+-- the parts of a sum over the least common denominator, divided by what it has in common with the divisor of both
+module _ (a b c d : ℤ) (k : pos 0 <ℤ d) (r : common a b ≡ 1) (s : common c d ≡ 1) where
+  pub sum_parts : (g q p n u f x y : ℤ) → g ≡ pos (common b d) → q ≡ int_div d g → p ≡ int_div b g → n ≡ a *ℤ q +ℤ c *ℤ p → u ≡ b *ℤ q
+      → f ≡ pos (common n g) → x ≡ int_div n f → y ≡ int_div u f
+      → (x ≡ top (a *ℤ bottom b d +ℤ c *ℤ top b d) (b *ℤ bottom b d)) × (y ≡ bottom (a *ℤ bottom b d +ℤ c *ℤ top b d) (b *ℤ bottom b d))
+  sum_parts g q p n u f x y eg eq ep en eu ef ex ey =
+      let q_is : q ≡ bottom b d = eq ∙ ap (int_div d) eg in
+      let p_is : p ≡ top b d = ep ∙ ap (int_div b) eg in
+      let n_is : n ≡ a *ℤ bottom b d +ℤ c *ℤ top b d = en ∙ ap₂ (λ s t. a *ℤ s +ℤ c *ℤ t) q_is p_is in
+      let u_is : u ≡ b *ℤ bottom b d = eu ∙ ap (λ t. b *ℤ t) q_is in
+      let f_is : f ≡ pos (common (a *ℤ bottom b d +ℤ c *ℤ top b d) (b *ℤ bottom b d)) = ef ∙ ap pos (ap₂ common n_is eg ∙ sym (sum_divisor a b c d k r s)) in
+      (ex ∙ ap₂ int_div n_is f_is, ey ∙ ap₂ int_div u_is f_is)
 
 -- the work numbers of a difference are those of the sum with the negative, but for the sign of one
 difference_is_sum : (a b c d : ℤ) → all_fit (difference_work a b c d) ≡ all_fit (sum_work a b (neg_ℤ c) d)

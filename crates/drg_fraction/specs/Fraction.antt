@@ -8,8 +8,8 @@ use Rattle.drg_algebra.specs.Rational.{ℚ}
 use Rattle.drg_algebra.specs.Ratio.{ratio}
 use Rattle.drg_algebra.specs.Reduced.{numerator, denominator, numerator_ratio, denominator_ratio, above_prop, common}
 use Rattle.drg_fraction.specs.declared.fraction.Fraction.{Fraction}
-use Rattle.drg_fraction.specs.declared.whole.Whole.{Whole}
-use Rattle.drg_fraction.specs.Work.{InRange}
+use Rattle.drg_whole.specs.declared.whole.Whole.{Whole}
+use Rattle.drg_whole.specs.Range.{InRange}
 
 unfoldable pub rational_of : Fraction → ℚ
 rational_of f = ratio f.num.value f.den.value

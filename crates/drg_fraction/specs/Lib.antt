@@ -1,5 +1,4 @@
 pub mod Work
-pub mod Whole
 pub mod Fraction
 pub mod Operations
 pub mod Field

@@ -1,10 +1,10 @@
 -- The rationals as an exact field of root 0, in which each value is its own rational part.
 use Rattle.std.specs.Prelude.{◌≡◌, ℕ, pos, true, refl}
 use Rattle.std.proofs.Common.{sym, ◌∙◌, ap, arith}
-use Rattle.drg_algebra.specs.Ring.{none, ◌⊗◌, ring2}
 use Rattle.drg_algebra.specs.Rational.{ℚ, whole, plus, times, minus, rationals}
 use Rattle.drg_algebra.specs.Fields.{invert, invert_is, rational_field}
 use Rattle.drg_algebra.proofs.Maps.{whole_map}
+use Rattle.drg_algebra.proofs.WholeParts.{zero_times}
 use Rattle.drg_algebra.proofs.NumberOrder.{rationals_ordered, sign_of_whole}
 use Rattle.drg_algebra.specs.Order.{IsAbove}
 use Rattle.drg_fraction.specs.Work.{sum_fits, difference_fits, product_fits, quotient_fits}
@@ -32,9 +32,6 @@ rational_operations = record {
   quotient_fits = quotient_fits;
   sign_fits = λ q. true;
 }
-
-zero_times : (q : ℚ) → times (whole (pos 0)) q ≡ whole (pos 0)
-zero_times q = ring2 rationals (λ q z. none ⊗ q) (λ q z. none) refl q q
 
 -- the rationals meet the laws of an exact field, at root 0
 pub rational_laws : (root : ℕ) → root ≡ 0 → IsExactField rational_operations root

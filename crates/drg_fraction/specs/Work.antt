@@ -1,22 +1,10 @@
--- The work numbers of each operation on fractions, their bound of 128 bits, and what an answer that is exact or
--- refused says.
-use Rattle.std.specs.Prelude.{◌≡◌, Bool, true, false, nat_lt, ◌<◌, ◌^◌, List, [], ◌∷◌, ℤ, pos, unsigned_abs, ◌+ℤ◌, ◌-ℤ◌, ◌*ℤ◌, int_div, Result, Ok, Err}
+-- The work numbers of each operation on fractions, and whether they are in range.
+use Rattle.std.specs.Prelude.{Bool, List, [], ◌∷◌, ℤ, pos, ◌+ℤ◌, ◌-ℤ◌, ◌*ℤ◌, int_div}
 use Rattle.std.specs.List.{list_all}
 use Rattle.drg_algebra.specs.Rational.{ℚ}
 use Rattle.drg_algebra.specs.Reduced.{numerator, denominator, common}
 use Rattle.drg_algebra.specs.Fields.{invert}
-
--- from -(2^127 - 1) to 2^127 - 1
-abbrev pub InRange : ℤ → Type 0
-InRange z = unsigned_abs z < 2 ^ 127
-
-abbrev pub in_range : ℤ → Bool
-in_range z = nat_lt (unsigned_abs z) (2 ^ 127)
-
--- the value where the work numbers are in range, and a refusal exactly where one isn't
-abbrev pub Gives : {A E V : Type 0} → (A → V) → Result A E → Bool → V → Type 0
-Gives value (Ok r) fits v = (fits ≡ true) × (value r ≡ v)
-Gives value (Err e) fits v = fits ≡ false
+use Rattle.drg_whole.specs.Range.{in_range}
 
 -- a/b + c/d with g = gcd(b, d): a (d/g), c (b/g), their sum, and b (d/g)
 abbrev pub sum_work : ℤ → ℤ → ℤ → ℤ → List ℤ

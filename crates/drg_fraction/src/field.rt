@@ -1,13 +1,13 @@
 ghost use Rattle.std.specs.Prelude.{◌≡◌, ◌≤◌, ℕ, ℤ, pos, unsigned_abs, is_ok, IfOk, IfSome, MatchOption, IsTrue, ◌↔◌, map, fold, length, All};
 ghost use Rattle.drg_algebra.specs.Rational.{whole};
-ghost use Rattle.drg_fraction.specs.Work.{InRange, Gives};
+ghost use Rattle.drg_whole.specs.Range.{InRange, Gives};
 ghost use Rattle.drg_fraction.specs.Fraction.{rational_of};
 ghost use Rattle.drg_fraction.specs.Operations.{Operations};
 ghost use Rattle.drg_fraction.specs.Members.{AreOrderedField};
 ghost use Rattle.drg_fraction.specs.Field.{IsExactField, HasSign, sum_of, sums_fit, sums_fit_from, products, dot_of, dot_fits, dot_fits_from};
 
 use crate::fraction::Fraction;
-use crate::whole::Wide;
+use drg_whole::Wide;
 use std::cmp::Ordering;
 
 /// Values `a + b√root` with rational a and b, where each operation gives the exact value, or refuses

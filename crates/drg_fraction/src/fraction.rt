@@ -3,10 +3,11 @@ ghost use Rattle.drg_algebra.specs.Rational.{plus, times, minus, whole};
 ghost use Rattle.drg_algebra.specs.Ratio.{ratio};
 ghost use Rattle.drg_algebra.specs.Reduced.{numerator, denominator, common};
 ghost use Rattle.drg_algebra.specs.Fields.{invert};
-ghost use Rattle.drg_fraction.specs.Work.{InRange, Gives, all_fit, sum_work, product_work, product_fits};
+ghost use Rattle.drg_fraction.specs.Work.{all_fit, sum_work, product_work, product_fits};
+ghost use Rattle.drg_whole.specs.Range.{InRange, Gives};
 ghost use Rattle.drg_fraction.specs.Text.{rational_text, BeginsWith};
 
-use crate::whole::{Whole, Wide};
+use drg_whole::{Whole, Wide};
 use itoa::Buffer;
 use std::alloc::AllocError;
 

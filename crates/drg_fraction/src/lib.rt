@@ -9,7 +9,7 @@
 //! The work numbers stand in `specs/Work.antt`, the operations of a field in `specs/Operations.antt`,
 //! its laws and the values of `sum` and `dot` in `specs/Field.antt`, the rational of a fraction in
 //! `specs/Fraction.antt`, its text in `specs/Text.antt`. The rationals themselves are those of
-//! `drg_algebra`.
+//! `drg_algebra`, the range of numbers and what an answer says those of `drg_whole`.
 #![tactic(auto)]
 
 mod field;
@@ -17,8 +17,7 @@ mod fraction;
 mod rational;
 #[cfg(test)]
 mod tests;
-mod whole;
 
+pub use drg_whole::{Wide, gcd};
 pub use field::{Field, dot, sum, values_are_a_field};
 pub use fraction::Fraction;
-pub use whole::{Wide, gcd};

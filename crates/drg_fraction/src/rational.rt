@@ -2,7 +2,7 @@ ghost use Rattle.std.specs.Prelude.{◌≡◌, refl};
 
 use crate::field::Field;
 use crate::fraction::Fraction;
-use crate::whole::{Whole, Wide};
+use drg_whole::{Whole, Wide};
 use std::cmp::Ordering;
 
 /// A fraction is an exact value of root 0.

@@ -6,22 +6,9 @@ use Rattle.std.proofs.Math.Nat.{add-mul}
 use Rattle.std.proofs.lemmas.List.FromFn.{fill_by_all, length-map-range_with_len, get_or-map-range_with_len}
 use Rattle.std.proofs.lemmas.Slice.{first_rest}
 use Rattle.std.proofs.lemmas.Nat.{mul-add-lt, row_fits, same_from_place}
-use Rattle.drg_algebra.specs.Tables.{delta}
 use Rattle.drg_fraction.specs.Operations.{Operations}
 use Rattle.drg_matrix.specs.Laws.{CellsAreOver}
 use Rattle.drg_matrix.specs.Table.{Square, cell, row_of, column_of, place}
-
--- ---- the scalar table
-module _ {V : Type 0} (nil v : V) where
-  pub delta_same : (i : ℕ) → delta nil v i i ≡ v
-  delta_same zero = refl
-  delta_same (suc i) = delta_same i
-
-  pub delta_other : (i j : ℕ) → (i ≡ j → ⊥) → delta nil v i j ≡ nil
-  delta_other zero zero f = absurd (f refl)
-  delta_other zero (suc j) f = refl
-  delta_other (suc i) zero f = refl
-  delta_other (suc i) (suc j) f = delta_other i j (λ e. f (ap suc e))
 
 -- ---- cells
 module _ {A V : Type 0} (value : A → V) (nil : V) where

@@ -5,9 +5,9 @@ use Rattle.std.proofs.lemmas.Int.{ints}
 use Rattle.drg_algebra.specs.Rational.{whole}
 use Rattle.drg_algebra.specs.Ring.{none, one, ◌⊕◌, ◌⊗◌, neg, from_one, ring2}
 use Rattle.drg_algebra.specs.Rational as Rational
+use Rattle.drg_algebra.specs.Ratio.{ratio_one}
 use Rattle.drg_algebra.proofs.Maps.{whole_map}
 use Rattle.drg_array.specs.Numbers.{size, vertex_count}
-use Rattle.drg_fraction.proofs.Parts.{ratio_one}
 use Rattle.drg_fraction.specs.Operations.{Operations}
 use Rattle.drg_fraction.specs.Field.{IsExactField}
 use Rattle.drg_matrix.specs.Product.{ProductIsScalar}
@@ -78,8 +78,8 @@ module _ {V : Type 0} {o : Operations V} {root : ℕ} (laws : IsExactField o roo
     p_over = λ i j h k. laws.over_rational _;
     q_over = λ i j h k. laws.over_rational _;
     descends = descent;
-    first = λ i h. laws.rational_unit;
-    second = λ i h. refl;
+    ones = λ i h. laws.rational_unit;
+    eigenvalues = λ i h. refl;
     recurrence = recurrence;
     product = subst (λ n. ProductIsScalar o 2 (λ i j. of (complete_table i j)) (λ i j. of (complete_table i j)) (o.rational n)) (sym vertices) product;
   }

@@ -3,7 +3,7 @@ use Rattle.std.proofs.Common.{◌≡◌, ℕ, zero, suc, ◌<◌, ◌≤◌, ref
 use Rattle.std.proofs.lemmas.Bool.{cases_lt}
 use Rattle.drg_algebra.specs.Ring.{Field}
 use Rattle.drg_algebra.specs.Tables.{total, delta}
-use Rattle.drg_algebra.proofs.Totals.{same_sum}
+use Rattle.drg_algebra.proofs.Totals.{same_sum, scaled_unit}
 use Rattle.drg_algebra.proofs.Tables.{right_inverse_is_left_holds}
 use Rattle.drg_fraction.specs.Operations.{Operations}
 use Rattle.drg_fraction.specs.Field.{IsExactField}
@@ -12,7 +12,6 @@ use Rattle.drg_fraction.proofs.Fields.{members_are_ordered_field, member_path}
 use Rattle.drg_matrix.specs.Table.{IsTableOver}
 use Rattle.drg_matrix.specs.Product.{entry}
 use Rattle.drg_matrix.specs.Laws.{RightInverseIsLeft}
-use Rattle.drg_matrix.proofs.Products.{scaled_unit}
 
 module _ {V : Type 0} {o : Operations V} {root : ℕ} (laws : IsExactField o root) where
   abbrev field : Field
@@ -60,7 +59,7 @@ module _ {V : Type 0} {o : Operations V} {root : ℕ} (laws : IsExactField o roo
   pub right_inverse_is_left_holds_over : RightInverseIsLeft o
   right_inverse_is_left_holds_over n p q x hp hq over some scalar i j h k =
       let y : Member o = record { value = x; over = over } in
-      let unit_is = λ (i j : ℕ). ap (o.times x) (value_of_delta i j field.ring.unit) ∙ scaled_unit o laws.ring x i j in
+      let unit_is = λ (i j : ℕ). ap (o.times x) (value_of_delta i j field.ring.unit) ∙ scaled_unit laws.ring x i j in
       let turned = right_inverse_is_left_holds field n (lifted n p hp) (lifted n q hq) y (λ e. some (ap (λ (z : Member o). z.value) e)) (λ i j h k.
       member_path laws _ _ (value_of_entry n p q hp hq i j h k ∙ scalar i j h k ∙ sym (unit_is i j))) in
       sym (value_of_entry n q p hq hp i j h k) ∙ ap (λ (z : Member o). z.value) (turned i j h k) ∙ unit_is i j

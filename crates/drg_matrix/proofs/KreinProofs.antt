@@ -2,15 +2,14 @@
 use Rattle.std.proofs.Common.{◌≡◌, ℕ, suc, ◌<◌, refl, sym, ap, ◌∙◌, arith, subst}
 use Rattle.drg_algebra.specs.Ring.{IsRing, ◌⊗◌, ring3}
 use Rattle.drg_algebra.specs.Tables.{total, delta}
-use Rattle.drg_algebra.proofs.Totals.{same_sum, scale_sum, swap_sums, delta_sum}
+use Rattle.drg_algebra.proofs.Totals.{same_sum, scale_sum, swap_sums, delta_sum, scaled_unit}
 use Rattle.drg_fraction.specs.Operations.{Operations}
 use Rattle.drg_fraction.specs.Field.{IsExactField}
 use Rattle.drg_array.specs.Entries.{Entries, IsArray, diameter}
 use Rattle.drg_array.specs.Numbers.{vertex_count}
 use Rattle.drg_matrix.specs.Product.{ProductIsScalar}
 use Rattle.drg_matrix.specs.Laws.{OneKreinFamily}
-use Rattle.drg_matrix.proofs.Products.{scaled_unit}
-use Rattle.drg_matrix.proofs.Counts.{count_above}
+use Rattle.drg_array.proofs.SizeSigns.{count_above}
 
 module _ {V : Type 0} (o : Operations V) (r : IsRing o.nil o.unit o.plus o.times o.minus) where
   -- p q = v I: the sum over r of p_jr (the sum over h of x_h q_rh) is x_j v
@@ -26,7 +25,7 @@ module _ {V : Type 0} (o : Operations V) (r : IsRing o.nil o.unit o.plus o.times
       column h k =
           same_sum r n (λ l. o.times (p j l) (o.times (x h) (q l h))) (λ l. o.times (x h) (o.times (p j l) (q l h))) (λ l m. ring3 r (λ p x q. p ⊗ (x ⊗ q)) (λ p x q. x ⊗ (p ⊗ q)) refl (p j l) (x h) (q l h))
           ∙ sym (scale_sum r n (x h) (λ l. o.times (p j l) (q l h)))
-          ∙ ap (o.times (x h)) (scalar j h g k ∙ sym (scaled_unit o r v j h))
+          ∙ ap (o.times (x h)) (scalar j h g k ∙ sym (scaled_unit r v j h))
           ∙ sym (r.times_assoc (x h) v (delta o.nil o.unit j h))
 
 module _ {V : Type 0} {o : Operations V} {root : ℕ} (laws : IsExactField o root) where

@@ -2,6 +2,5 @@ mod Cells
 mod Filling
 mod Products
 mod Inverses
-mod Counts
 mod KreinProofs
 mod Complete

@@ -34,16 +34,6 @@ module _ {V : Type 0} (o : Operations V) (r : IsRing o.nil o.unit o.plus o.times
       ∙ sum_of_places (λ l. o.times (f l) (g l)) 0 n
       ∙ same_sum r n (λ l. o.times (f (0 + l)) (g (0 + l))) (λ l. o.times (f l) (g l)) (λ l h. ap (λ (m : ℕ). o.times (f m) (g m)) (omega arith))
 
-  no_product : (x : V) → o.times x o.nil ≡ o.nil
-  no_product x = ring2 r (λ x y. x ⊗ none) (λ x y. none) refl x x
-
-  -- x times the unit table has x on the diagonal
-  pub scaled_unit : (x : V) (i j : ℕ) → o.times x (delta o.nil o.unit i j) ≡ delta o.nil x i j
-  scaled_unit x zero zero = r.times_unit x
-  scaled_unit x zero (suc j) = no_product x
-  scaled_unit x (suc i) zero = no_product x
-  scaled_unit x (suc i) (suc j) = scaled_unit x i j
-
 pub product_is_sum : {A V : Type 0} (value : A → V) (operations : ℕ → Operations V) (root : ℕ)
     → (let o = operations root in IsRing o.nil o.unit o.plus o.times o.minus) → ProductIsSum value operations root
 product_is_sum {A} value operations root r s t i j e h =

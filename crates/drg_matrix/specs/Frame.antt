@@ -27,8 +27,8 @@ pub record IsFrame {V : Type 0} (o : Operations V) (a : Entries) (theta : ℕ �
   pub p_over : IsTableOver o (suc (diameter a)) p
   pub q_over : IsTableOver o (suc (diameter a)) q
   pub descends : (i : ℕ) → i < diameter a → o.IsPositive (o.plus (theta i) (o.minus (theta (suc i))))
-  pub first : (i : ℕ) → i ≤ diameter a → p i 0 ≡ o.unit
-  pub second : (i : ℕ) → i ≤ diameter a → p i 1 ≡ theta i
+  pub ones : (i : ℕ) → i ≤ diameter a → p i 0 ≡ o.unit
+  pub eigenvalues : (i : ℕ) → i ≤ diameter a → p i 1 ≡ theta i
   pub recurrence : (i j : ℕ) → i ≤ diameter a → j ≤ diameter a → o.times (theta i) (p i j) ≡ neighbours o a (p i) j
   pub product : ProductIsScalar o (suc (diameter a)) p q (o.rational (vertex_count a))
 

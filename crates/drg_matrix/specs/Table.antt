@@ -3,7 +3,6 @@ use Rattle.std.specs.Prelude.{◌≡◌, ℕ, ◌≤◌, ◌<◌, ◌+◌, ◌*�
 use Rattle.std.specs.List.{range_with_len}
 use Rattle.drg_algebra.specs.Tables.{delta}
 use Rattle.drg_fraction.specs.Operations.{Operations}
-use Rattle.drg_matrix.specs.declared.limits.TheConstants.{MAX_SIDE}
 
 -- How many rows and columns there are, the root of all cells, and the cells row by row.
 pub record Square (A : Type 0) : Type 0 where
@@ -11,10 +10,10 @@ pub record Square (A : Type 0) : Type 0 where
   pub root : ℕ
   pub cells : List A
 
--- there are as many rows as columns, from 1 to MAX_SIDE, and all cells have the root
+-- there are as many rows as columns, from 1 to 17, and all cells have the root
 pub record IsTable {A : Type 0} (root_of : A → ℕ) (t : Square A) : Type 0 where
   pub some : 1 ≤ t.side
-  pub short : t.side ≤ MAX_SIDE
+  pub short : t.side ≤ 17
   pub full : length t.cells ≡ t.side * t.side
   pub roots : All (λ x. root_of x ≡ t.root) t.cells
 

@@ -1,6 +1,6 @@
 //! Square tables over an exact field, and the equations of frames and Krein parameters.
 //!
-//! A `Table` has from 1 to `MAX_SIDE` rows and as many columns, of values over one root. The product
+//! A `Table` has from 1 to 17 rows and as many columns, of values over one root. The product
 //! of two tables is exact, or names the first cell with a work number above `2^127 - 1`. The functions
 //! without code promise laws for the values of every exact field: a cell of a product is a sum of
 //! products, a right inverse of a table is a left one, and a frame of an array has at most one family
@@ -14,7 +14,6 @@
 
 mod fault;
 mod laws;
-mod limits;
 mod product;
 mod table;
 #[cfg(test)]
@@ -22,5 +21,4 @@ mod tests;
 
 pub use fault::TableFault;
 pub use laws::{example_law, krein_law, right_inverse_is_left, table_law};
-pub use limits::MAX_SIDE;
 pub use table::Table;

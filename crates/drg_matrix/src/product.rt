@@ -1,14 +1,13 @@
 //! The rows of a product.
 
 ghost use Rattle.std.specs.Prelude.{◌≡◌, ◌+◌, ◌≤◌, ◌<◌, All, IfOk, IfErr, OnOk, drop, fold, length, map};
-ghost use Rattle.drg_fraction.specs.Work.{Gives};
+ghost use Rattle.drg_whole.specs.Range.{Gives};
 ghost use Rattle.drg_fraction.specs.Field.{products, dot_of, dot_fits, dot_fits_from};
 ghost use Rattle.drg_matrix.specs.Table.{column_of};
 ghost use Rattle.drg_matrix.specs.Product.{IsFault, product_fits_at};
 ghost use Rattle.drg_matrix.specs.Filling.{IsFilled};
 
 use crate::fault::TableFault;
-use crate::limits::MAX_SIDE;
 use crate::table::Table;
 use drg_fraction::{Field, Wide};
 
@@ -42,7 +41,7 @@ pub(crate) fn append_row<F: Field>(
 
 /// The row times the column, from left to right, starting at the first product.
 pub(crate) fn dot_column<F: Field>(row: &[F], right: &Table<F>, col: usize) -> Result<F, Wide>
-    requires short { right.now.side ≤ MAX_SIDE }
+    requires short { right.now.side ≤ 17 }
     requires length { length row.now ≡ right.now.side }
     requires roots { All (λ x. F.root_of x ≡ right.now.root) row.now }
     requires col { col < right.now.side }
@@ -71,7 +70,7 @@ fn dot_column_onto<F: Field>(
     col: usize,
 ) -> Result<F, Wide>
     requires so_far { F.root_of so_far ≡ right.now.root }
-    requires short { right.now.side ≤ MAX_SIDE }
+    requires short { right.now.side ≤ 17 }
     requires length { at + length row.now ≡ right.now.side }
     requires roots { All (λ x. F.root_of x ≡ right.now.root) row.now }
     requires col { col < right.now.side }

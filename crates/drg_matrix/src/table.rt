@@ -2,18 +2,17 @@
 
 ghost use Rattle.std.specs.Prelude.{◌≡◌, ◌↔◌, ◌≤◌, ◌<◌, ℕ, All, IfOk, IfErr, IsTrue, length, map, slice_index_or};
 ghost use Rattle.drg_algebra.specs.Tables.{delta};
-ghost use Rattle.drg_fraction.specs.Work.{Gives};
+ghost use Rattle.drg_whole.specs.Range.{Gives};
 ghost use Rattle.drg_matrix.specs.Table.{IsTable, cell, row_of, IsScalarTable};
 ghost use Rattle.drg_matrix.specs.Product.{AllFit, IsFault, product_at, product_fits_at};
 
 use crate::fault::TableFault;
-use crate::limits::MAX_SIDE;
 use crate::product::{append_row, dot_column};
 use drg_fraction::{Field, Wide};
 use std::alloc::{AllocError, Global};
 use std::marker::Model;
 
-/// A square table of 1 to `MAX_SIDE` rows over an exact field. All cells have one root. Rows and
+/// A square table of 1 to 17 rows over an exact field. All cells have one root. Rows and
 /// columns are counted from 0.
 #[derive(Drop)]
 pub struct Table<F: Field> {
@@ -36,7 +35,7 @@ impl<F: Field> Table<F> {
     /// The table with `fill` in each cell, whose root is that of `fill`.
     pub fn make(alloc: Global, side: usize, fill: F) -> Result<Table<F>, AllocError>
         requires some { 1 ≤ side }
-        requires short { side ≤ MAX_SIDE }
+        requires short { side ≤ 17 }
         ensures side { IfOk result (λ t. t.side ≡ side) }
         ensures root { IfOk result (λ t. t.root ≡ F.root_of fill) }
         ensures cells { IfOk result (λ t. (i j : ℕ) → i < side → j < side

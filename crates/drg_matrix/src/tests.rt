@@ -1,6 +1,6 @@
 //! Tables by hand.
 ghost use Rattle.std.specs.Prelude.{◌≡◌, IfOk};
-ghost use Rattle.drg_fraction.specs.Work.{InRange};
+ghost use Rattle.drg_whole.specs.Range.{InRange};
 ghost use Rattle.drg_quadratic.specs.Quadratic.{root_of};
 
 use crate::{Table, TableFault, example_law, krein_law, right_inverse_is_left, table_law};

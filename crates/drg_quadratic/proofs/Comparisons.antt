@@ -7,11 +7,10 @@ use Rattle.drg_algebra.specs.Ring.{none, ◌⊕◌, ◌⊗◌, ring2}
 use Rattle.drg_algebra.specs.Integer.{above_times}
 use Rattle.drg_algebra.specs.Rational.{ℚ, whole, rationals}
 use Rattle.drg_algebra.specs.Rational as Rational
-use Rattle.drg_algebra.specs.Ratio.{ratio, ratio_same, plus_ratio, times_ratio}
+use Rattle.drg_algebra.specs.Ratio.{ratio, one_above, ratio_one, ratio_same, plus_ratio, times_ratio}
 use Rattle.drg_algebra.proofs.RatioLemmas.{negative_of_ratio}
 use Rattle.drg_fraction.specs.Rationals.{rational_operations, rational_laws}
 use Rattle.drg_fraction.specs.Work as Parts
-use Rattle.drg_fraction.proofs.Parts.{ratio_one}
 use Rattle.drg_quadratic.specs.Values.{Value, IsRoot, plus, minus}
 use Rattle.drg_quadratic.specs.Operations.{value_operations}
 use Rattle.drg_quadratic.specs.Laws.{value_laws, is_its_parts}
@@ -56,7 +55,6 @@ square_is n = times_ratio n (pos 2) n (pos 2) two_above two_above
 
 rooted : (root : ℕ) (n : ℤ) → Rational.times (whole (pos root)) (ratio (n *ℤ n) (pos 2 *ℤ pos 2)) ≡ ratio (pos root *ℤ (n *ℤ n)) (pos 2 *ℤ pos 2)
 rooted root n =
-    let one_above : pos 0 <ℤ pos 1 = record { lt = tt } in
     let cross : pos root *ℤ (n *ℤ n) *ℤ (pos 2 *ℤ pos 2) ≡ pos root *ℤ (n *ℤ n) *ℤ (pos 1 *ℤ (pos 2 *ℤ pos 2)) = refl in
     ap (λ q. Rational.times q (ratio (n *ℤ n) (pos 2 *ℤ pos 2))) (sym (ratio_one (pos root)))
     ∙ times_ratio (pos root) (pos 1) (n *ℤ n) (pos 2 *ℤ pos 2) one_above four_above

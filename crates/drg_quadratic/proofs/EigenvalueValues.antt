@@ -7,12 +7,12 @@ use Rattle.drg_algebra.specs.Ring.{none, ◌⊕◌, neg, ring2}
 use Rattle.drg_algebra.specs.Ratio.{ratio}
 use Rattle.drg_algebra.specs.Pairs.{pair_path, root_values}
 use Rattle.drg_algebra.specs.Order.{IsPositive}
+use Rattle.drg_algebra.proofs.WholeParts.{two_halves, zero_ratio}
 use Rattle.drg_quadratic.specs.Values.{IsRoot, IsOver, Value, nil, plus, minus}
 use Rattle.drg_quadratic.specs.Laws.{minus_nil, flat_plus, value_laws}
 use Rattle.drg_quadratic.specs.declared.eigenvalue.Eigenvalue.{Eigenvalue}
 use Rattle.drg_quadratic.specs.Eigenvalue.{eigenvalue_of, difference, IsBelow, eigenvalue_cmp, OrderOfEigenvalues, OneEigenvalue, TwiceEigenvalue}
 use Rattle.drg_quadratic.specs.EigenvalueLaws.{twice_difference, IsLess, one_eigenvalue, eigenvalues_ranked}
-use Rattle.drg_quadratic.proofs.Halves.{half_of_nil, double}
 
 half_positive : (root : ℕ) → IsRoot root → (z w : Value) → IsOver root z → plus z z ≡ w → IsPositive root w → IsPositive root z
 half_positive root h z w o e p = go ((value_laws root h).positive_or_not z o)
@@ -31,10 +31,10 @@ half_positive root h z w o e p = go ((value_laws root h).positive_or_not z o)
         (subst (IsPositive root) (ring2 (root_values 0).laws (λ x y. (x ⊕ x) ⊕ (neg x ⊕ neg x)) (λ x y. none) refl z z) q))
 
 pub twice_eigenvalue : TwiceEigenvalue
-twice_eigenvalue x = pair_path _ _ (double x.s) (double x.f)
+twice_eigenvalue x = pair_path _ _ (two_halves x.s) (two_halves x.f)
 
 pub value_over : (x : Eigenvalue) → IsOver x.root (eigenvalue_of x)
-value_over x = λ r. ap (λ n. ratio n (pos 2)) (x.flat r) ∙ half_of_nil
+value_over x = λ r. ap (λ n. ratio n (pos 2)) (x.flat r) ∙ zero_ratio (pos 2) (record { lt = tt })
 
 less_by_value : (x y : Eigenvalue) → x.root ≡ y.root → IsPositive y.root (twice_difference y x) → IsPositive y.root (difference y x)
 less_by_value x y e p = half_positive y.root y.has_root (difference y x) (twice_difference y x) over doubled p

@@ -6,11 +6,11 @@ use Rattle.drg_algebra.specs.Rational as Rational
 use Rattle.drg_algebra.specs.Ratio.{ratio}
 use Rattle.drg_algebra.specs.Pairs.{pair_path}
 use Rattle.drg_algebra.specs.Order.{IsAbove, IsPositive}
+use Rattle.drg_algebra.proofs.WholeParts.{two_halves}
 use Rattle.drg_fraction.specs.Operations.{Operations}
 use Rattle.drg_fraction.specs.Field.{IsExactField}
 use Rattle.drg_quadratic.specs.Values.{Value, IsOver, plus}
 use Rattle.drg_quadratic.specs.Laws.{not_above, minus_nil}
-use Rattle.drg_quadratic.proofs.Halves.{double}
 
 module _ {V : Type 0} {o : Operations V} {root : ℕ} (laws : IsExactField o root) where
   abbrev pub embed : Value → V
@@ -35,7 +35,7 @@ module _ {V : Type 0} {o : Operations V} {root : ℕ} (laws : IsExactField o roo
       half = o.rational (ratio (pos 1) (pos 2))
 
       whole_half : o.plus half half ≡ o.unit
-      whole_half = sym (laws.rational_plus (ratio (pos 1) (pos 2)) (ratio (pos 1) (pos 2))) ∙ ap o.rational (double (pos 1)) ∙ laws.rational_unit
+      whole_half = sym (laws.rational_plus (ratio (pos 1) (pos 2)) (ratio (pos 1) (pos 2))) ∙ ap o.rational (two_halves (pos 1)) ∙ laws.rational_unit
 
       halved : (z : V) → z ≡ o.times half (o.plus z z)
       halved z = from_one laws.ring _ _ (o.minus z) _ _ whole_half (ring2 laws.ring (λ z h. z ⊕ neg z ⊗ one) (λ z h. h ⊗ (z ⊕ z) ⊕ neg z ⊗ (h ⊕ h)) refl z half)

@@ -8,8 +8,9 @@ use native.Mathlib.Nat.{div-le_self}
 use Rattle.drg_algebra.specs.Rational.{ℚ, whole}
 use Rattle.drg_algebra.specs.Ratio.{ratio, div_abs}
 use Rattle.drg_algebra.specs.Reduced.{numerator, denominator, numerator_ratio, denominator_ratio, common, top, bottom, top_size, bottom_above, reduced, top_ratio}
-use Rattle.drg_fraction.specs.Work.{in_range, product_fits, difference_fits, fits_at}
-use Rattle.drg_fraction.proofs.Parts.{numerator_whole, denominator_whole}
+use Rattle.drg_algebra.proofs.WholeParts.{numerator_whole, denominator_whole}
+use Rattle.drg_whole.specs.Range.{in_range}
+use Rattle.drg_fraction.specs.Work.{product_fits, difference_fits, fits_at}
 
 pub record IsWithin (over_most under_most : ℕ) (q : ℚ) : Type 0 where
   pub over : unsigned_abs (numerator q) ≤ over_most

@@ -1,7 +1,8 @@
 ghost use Rattle.std.specs.Prelude.{◌≡◌, pos};
 ghost use Rattle.drg_algebra.specs.Rational.{times, whole};
 ghost use Rattle.drg_fraction.specs.Fraction.{rational_of};
-ghost use Rattle.drg_fraction.specs.Work.{Gives, product_fits};
+ghost use Rattle.drg_fraction.specs.Work.{product_fits};
+ghost use Rattle.drg_whole.specs.Range.{Gives};
 ghost use Rattle.drg_quadratic.specs.Work.{sign_of};
 ghost use Rattle.drg_quadratic.specs.Text.{magnitude_of};
 

@@ -1,7 +1,7 @@
 ghost use Rattle.std.specs.Prelude.{◌≡◌, pos};
 ghost use Rattle.drg_algebra.specs.Rational.{whole};
 ghost use Rattle.drg_fraction.specs.Fraction.{rational_of};
-ghost use Rattle.drg_fraction.specs.Work.{Gives};
+ghost use Rattle.drg_whole.specs.Range.{Gives};
 ghost use Rattle.drg_quadratic.specs.Values.{IsRoot, flat_prop, conjugate, norm};
 ghost use Rattle.drg_quadratic.specs.Work.{norm_fits};
 

@@ -13,7 +13,7 @@ some (pos zero) h = absurd (h refl)
 some (pos (suc n)) h = omega arith
 some (negsuc n) h = omega arith
 
-nothing : (z : ℤ) → unsigned_abs z ≡ 0 → z ≡ pos 0
+pub nothing : (z : ℤ) → unsigned_abs z ≡ 0 → z ≡ pos 0
 nothing (pos n) h = ap pos h
 nothing (negsuc n) h = absurd (omega arith)
 

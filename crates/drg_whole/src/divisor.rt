@@ -13,6 +13,7 @@ pub fn gcd(a: i128, b: i128) -> i128
     ensures not_negative { pos 0 ≤ℤ result }
     ensures greatest { IsGcd (unsigned_abs a) (unsigned_abs b) (unsigned_abs result) }
     ensures value { result ≡ pos (common a b) }
+    ensures zero { result ≡ pos 0 → (a ≡ pos 0) × (b ≡ pos 0) }
 {
     gcd_unsigned(a.unsigned_abs(), b.unsigned_abs()) as i128
 }

@@ -107,6 +107,7 @@ impl Whole {
         ensures not_negative { pos 0 ≤ℤ result.value }
         ensures greatest { IsGcd (unsigned_abs self.value) (unsigned_abs other.value) (unsigned_abs result.value) }
         ensures value { result.value ≡ pos (common self.value other.value) }
+        ensures zero { result.value ≡ pos 0 → (self.value ≡ pos 0) × (other.value ≡ pos 0) }
     {
         Whole {
             value: gcd(self.value, other.value),

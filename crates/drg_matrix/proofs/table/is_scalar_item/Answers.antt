@@ -1,6 +1,6 @@
 use Rattle.std.proofs.Common.{◌≡◌, ap, sym, ◌∙◌}
 use Rattle.drg_algebra.specs.Tables.{delta}
-use Rattle.drg_matrix.proofs.Cells.{delta_same, delta_other}
+use Rattle.drg_algebra.proofs.Totals.{delta_same, delta_other}
 use Rattle.drg_matrix.proofs.table.is_scalar_item.Goals as goal
 
 pub returns-then-at-place : goal.returns-then-at-place

@@ -2,6 +2,7 @@ use Rattle.std.proofs.Common.{◌<◌, ◌^◌, ◌≡◌, arith, sym, ◌∙◌
 use Rattle.std.proofs.lemmas.Int.{ints, to_z_pos, to_z-of_z}
 use Rattle.std.specs.Int.{w128, IsGcd}
 use Rattle.drg_algebra.specs.Gcd.{gcd_of, gcd_is, gcd_below}
+use Rattle.drg_whole.proofs.Multiples.{zero_divides}
 use Rattle.drg_whole.proofs.divisor.gcd.Goals as goal
 
 pub overflow_cast-result : goal.overflow_cast-result
@@ -21,3 +22,6 @@ returns-clause-not_negative c = rw (returns-clause-value c) (omega (arith, ints)
 pub returns-clause-greatest : goal.returns-clause-greatest
 returns-clause-greatest c =
     subst (λ (z : ℤ). IsGcd (unsigned_abs c.args.a) (unsigned_abs c.args.b) (unsigned_abs z)) (sym (returns-clause-value c)) (gcd_is (unsigned_abs c.args.a) (unsigned_abs c.args.b))
+
+pub returns-clause-zero : goal.returns-clause-zero
+returns-clause-zero c = λ e. (let g = returns-clause-greatest c in (zero_divides _ c.args.a g.0 e, zero_divides _ c.args.b g.1 e))

@@ -32,7 +32,7 @@ returns-then-self-eq0 c =
     let y = c.args.other in
     let a : x.num.value ≡ pos 0 = grind (arith, ints) in (
       zero_by_any_fits x.num.value x.den.value y.num.value y.den.value a x.above x.reduced y.above,
-      zero_by_any_is x.num.value x.den.value (rational_of y) a x.above x.reduced,
+      zero_by_any_is x.num.value x.den.value (rational_of y) a x.above,
     )
 
 pub returns-then-other-eq0 : goal.returns-then-other-eq0
@@ -42,5 +42,5 @@ returns-then-other-eq0 c =
     let y = c.args.other in
     let n : y.num.value ≡ pos 0 = grind (arith, ints) in (
       any_by_zero_fits x.num.value x.den.value y.num.value y.den.value n y.above y.reduced x.above,
-      any_by_zero_is y.num.value y.den.value (rational_of x) n y.above y.reduced,
+      any_by_zero_is y.num.value y.den.value (rational_of x) n y.above,
     )

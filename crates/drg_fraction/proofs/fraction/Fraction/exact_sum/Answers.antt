@@ -32,7 +32,7 @@ returns-then-self-eq0 c =
     let y = c.args.other in
     let a : x.num.value ≡ pos 0 = grind (arith, ints) in (
       zero_left_fits x.num.value x.den.value y.num.value y.den.value a x.above x.reduced y.num.in_range y.den.in_range,
-      zero_left_is x.num.value x.den.value (rational_of y) a x.above x.reduced,
+      zero_left_is x.num.value x.den.value (rational_of y) a x.above,
     )
 
 pub returns-then-other-eq0 : goal.returns-then-other-eq0
@@ -42,5 +42,5 @@ returns-then-other-eq0 c =
     let y = c.args.other in
     let n : y.num.value ≡ pos 0 = grind (arith, ints) in (
       zero_right_fits x.num.value x.den.value y.num.value y.den.value n y.above y.reduced x.num.in_range x.den.in_range,
-      zero_right_is y.num.value y.den.value (rational_of x) n y.above y.reduced,
+      zero_right_is y.num.value y.den.value (rational_of x) n y.above,
     )

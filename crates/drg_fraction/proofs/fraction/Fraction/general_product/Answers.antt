@@ -2,8 +2,8 @@ use Rattle.std.proofs.Common.{◌≡◌, ◌*ℤ◌, ap₂, ◌∙◌, rules}
 use Rattle.drg_algebra.specs.Ratio.{ratio}
 use Rattle.drg_algebra.specs.Reduced.{common, top, bottom}
 use Rattle.drg_fraction.specs.Fraction.{rational_of}
-use Rattle.drg_fraction.proofs.Products.{product_under_above, product_is}
-use Rattle.drg_fraction.proofs.Coprime.{product_reduced}
+use Rattle.drg_algebra.proofs.Reductions.{product_under_above, product_is}
+use Rattle.drg_algebra.proofs.Coprime.{product_reduced}
 use Rattle.drg_fraction.proofs.fraction.Fraction.general_product.Goals as goal
 
 pub invariant_of-result : goal.invariant_of-result

@@ -7,7 +7,8 @@ use Rattle.drg_algebra.specs.Reduced.{common}
 use Rattle.drg_fraction.specs.Fraction.{rational_of}
 use Rattle.drg_algebra.proofs.Divisors.{gcd_commutes}
 use Rattle.drg_algebra.proofs.RatioLemmas.{sign_of_denominator}
-use Rattle.drg_fraction.proofs.Parts.{numerator_of, denominator_of, abs_turned, zero_of}
+use Rattle.drg_algebra.proofs.WholeParts.{abs_turned}
+use Rattle.drg_fraction.proofs.Parts.{numerator_of, denominator_of, zero_of}
 use Rattle.drg_fraction.proofs.fraction.Fraction.inverse.Goals as goal
 
 pub invariant_of-result : goal.invariant_of-result

@@ -5,7 +5,8 @@ use Rattle.drg_algebra.specs.Reduced.{common}
 use Rattle.drg_fraction.specs.Fraction.{rational_of}
 use Rattle.drg_fraction.specs.Work.{product_work}
 use Rattle.drg_fraction.proofs.Parts.{fits_is}
-use Rattle.drg_fraction.proofs.Shortcuts.{square_fits, square_reduced, square_is}
+use Rattle.drg_algebra.proofs.Coprime.{square_reduced}
+use Rattle.drg_fraction.proofs.Shortcuts.{square_fits, square_is}
 use Rattle.drg_fraction.proofs.fraction.Fraction.squared.Goals as goal
 
 pub invariant_of-result : goal.invariant_of-result

@@ -1,9 +1,9 @@
 use Rattle.std.proofs.Common.{◌≡◌, pos, ap, ◌∙◌, arith}
 use Rattle.std.proofs.lemmas.Int.{ints}
-use Rattle.drg_algebra.specs.Ratio.{ratio}
+use Rattle.drg_algebra.specs.Ratio.{ratio, ratio_one}
 use Rattle.drg_algebra.specs.Reduced.{common}
 use Rattle.drg_fraction.specs.Fraction.{rational_of}
-use Rattle.drg_fraction.proofs.Parts.{ratio_one, whole_reduced}
+use Rattle.drg_algebra.proofs.WholeParts.{whole_reduced}
 use Rattle.drg_fraction.proofs.fraction.Fraction.whole.Goals as goal
 
 pub invariant_of-result : goal.invariant_of-result

@@ -2,7 +2,7 @@ use Rattle.std.proofs.Common.{◌≡◌, pos, sym, ap, ◌∙◌, rules, arith}
 use Rattle.std.proofs.lemmas.Int.{ints, to_z-of_z}
 use Rattle.std.specs.Int.{w128}
 use Rattle.drg_algebra.specs.Rational.{whole}
-use Rattle.drg_fraction.proofs.Parts.{whole_value, value_whole}
+use Rattle.drg_algebra.proofs.WholeParts.{whole_value, value_whole}
 use Rattle.drg_fraction.proofs.rational.FractionField.as_int.Goals as goal
 
 pub returns-then-den-eq1-clause-whole : goal.returns-then-den-eq1-clause-whole

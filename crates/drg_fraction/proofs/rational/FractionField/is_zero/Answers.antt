@@ -1,6 +1,6 @@
 use Rattle.std.proofs.Common.{◌≡◌, pos, sym, ◌∙◌, arith}
 use Rattle.std.proofs.lemmas.Int.{ints}
-use Rattle.drg_fraction.proofs.Parts.{zero_value, value_zero}
+use Rattle.drg_algebra.proofs.WholeParts.{zero_value, value_zero}
 use Rattle.drg_fraction.proofs.rational.FractionField.is_zero.Goals as goal
 
 pub returns : goal.returns

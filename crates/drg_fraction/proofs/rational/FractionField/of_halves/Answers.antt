@@ -4,10 +4,10 @@ use Rattle.std.specs.Int.{w128}
 use Rattle.drg_algebra.specs.Rational.{plus}
 use Rattle.drg_algebra.specs.Ratio.{ratio}
 use Rattle.drg_fraction.specs.Fraction.{rational_of}
-use Rattle.drg_fraction.proofs.Parts.{two_halves}
+use Rattle.drg_fraction.proofs.Parts.{halves_are}
 use Rattle.drg_fraction.proofs.rational.FractionField.of_halves.Goals as goal
 
 pub returns-clause-value : goal.returns-clause-value
 returns-clause-value c =
     let half : rational_of c.make.result ≡ ratio c.args.s (pos 2) = c.make.ensures ∙ ap (λ n. ratio n (pos 2)) (to_z-of_z w128 c.args.s c.ranges.s) in
-    ap₂ plus half half ∙ two_halves c.args.s c.args._f
+    ap₂ plus half half ∙ halves_are c.args.s c.args._f

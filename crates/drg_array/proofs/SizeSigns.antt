@@ -1,4 +1,4 @@
--- An array has more than 0 vertices, whether its sizes are whole or not.
+-- The sizes of an array, and its number of vertices, are above 0, whether they are whole or not.
 use Rattle.std.proofs.Common.{ℕ, zero, suc, ◌≤◌, arith, inl, pos}
 use Rattle.std.specs.Prelude.{◌<ℤ◌}
 use Rattle.std.proofs.lemmas.Int.{ints}
@@ -13,7 +13,7 @@ use Rattle.drg_array.proofs.EntryLemmas.{b-positive, c-positive}
 some : (n : ℕ) → 1 ≤ n → pos 0 <ℤ pos n
 some n h = omega (arith, ints, h)
 
-size_above : (a : Entries) → IsArray a → (i : ℕ) → i ≤ diameter a → IsAbove (size a i)
+pub size_above : (a : Entries) → IsArray a → (i : ℕ) → i ≤ diameter a → IsAbove (size a i)
 size_above a array zero h = (sign_of_whole (pos 1)).1 (some 1 (omega arith))
 size_above a array (suc i) h =
     let before = size_above a array i (omega (arith, h)) in

@@ -1,5 +1,5 @@
--- The product of two reduced ratios, reduced across, is reduced; and what a sum over the least common denominator has in
--- common with that denominator.
+-- The product of two reduced ratios, reduced across, is reduced, and so is a square; and what a sum over the least common
+-- denominator has in common with that denominator.
 use Rattle.std.proofs.Common.{◌≡◌, ◌<ℤ◌, ℕ, ◌*◌, ℤ, pos, unsigned_abs, int_div, refl, ap, ap₂, sym, ◌∙◌, subst}
 use Rattle.std.specs.Prelude.{◌+ℤ◌, ◌*ℤ◌, neg_ℤ}
 use Rattle.std.specs.Int.{◌∣◌}
@@ -40,6 +40,14 @@ module _ (a b c d : ℤ) (h : pos 0 <ℤ b) (k : pos 0 <ℤ d) (r : common a b �
       let qx : gcd_of (x * y) q ≡ 1 = gcd_commutes (x * y) q ∙ coprime_to_product q x y (reduced c b h) cd in
       ap₂ gcd_of (unsigned_abs-mul (top a d) (top c b)) (unsigned_abs-mul (bottom c b) (bottom a d))
       ∙ gcd_commutes (p * q) (x * y) ∙ coprime_to_product (x * y) p q px qx
+
+-- numbers without a common divisor have squares without one
+pub square_reduced : (a b : ℤ) → common a b ≡ 1 → common (a *ℤ a) (b *ℤ b) ≡ 1
+square_reduced a b r =
+    let x = unsigned_abs a in
+    let y = unsigned_abs b in
+    let xy : gcd_of (y * y) x ≡ 1 = gcd_commutes (y * y) x ∙ coprime_to_product x y y r r in
+    ap₂ gcd_of (unsigned_abs-mul a a) (unsigned_abs-mul b b) ∙ gcd_commutes (x * x) (y * y) ∙ coprime_to_product (y * y) x x xy xy
 
 -- ---- sums
 -- what divides a sum and one of its terms divides the other
@@ -95,15 +103,3 @@ module _ (a b c d : ℤ) (k : pos 0 <ℤ d) (r : common a b ≡ 1) (s : common c
       let nq : gcd_of n y ≡ 1 = ap (λ z. common z q) (sym turned) ∙ sum_coprime c p (a *ℤ q) q d aq qd s (gcd_commutes y x ∙ pq) in
       let under : unsigned_abs (b *ℤ q) ≡ g * (x * y) = unsigned_abs-mul b q ∙ ap (λ (m : ℕ). m * y) (sym b_is) ∙ mul_assoc g x y in
       ap (gcd_of n) under ∙ drop_coprime n g (x * y) (coprime_to_product n x y np nq)
-
-  -- the parts of a sum that is divided by that divisor
-  pub sum_parts : (g q p n u f x y : ℤ) → g ≡ pos (common b d) → q ≡ int_div d g → p ≡ int_div b g → n ≡ a *ℤ q +ℤ c *ℤ p → u ≡ b *ℤ q
-      → f ≡ pos (common n g) → x ≡ int_div n f → y ≡ int_div u f
-      → (x ≡ top (a *ℤ bottom b d +ℤ c *ℤ top b d) (b *ℤ bottom b d)) × (y ≡ bottom (a *ℤ bottom b d +ℤ c *ℤ top b d) (b *ℤ bottom b d))
-  sum_parts g q p n u f x y eg eq ep en eu ef ex ey =
-      let q_is : q ≡ bottom b d = eq ∙ ap (int_div d) eg in
-      let p_is : p ≡ top b d = ep ∙ ap (int_div b) eg in
-      let n_is : n ≡ a *ℤ bottom b d +ℤ c *ℤ top b d = en ∙ ap₂ (λ s t. a *ℤ s +ℤ c *ℤ t) q_is p_is in
-      let u_is : u ≡ b *ℤ bottom b d = eu ∙ ap (λ t. b *ℤ t) q_is in
-      let f_is : f ≡ pos (common (a *ℤ bottom b d +ℤ c *ℤ top b d) (b *ℤ bottom b d)) = ef ∙ ap pos (ap₂ common n_is eg ∙ sym sum_divisor) in
-      (ex ∙ ap₂ int_div n_is f_is, ey ∙ ap₂ int_div u_is f_is)
