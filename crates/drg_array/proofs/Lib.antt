@@ -8,7 +8,9 @@ mod Begins
 mod KindLaws
 mod FaultLaws
 mod TextLaws
+pub mod TestLaws
 mod TestListLaws
+pub mod ClaimLaws
 pub mod TestTexts
 mod Told
 mod ConditionProofs

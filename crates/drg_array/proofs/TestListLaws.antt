@@ -1,5 +1,5 @@
 -- Lists of tests: which names a text has, and room for each test once.
-use Rattle.std.proofs.Common.{◌≡◌, ℕ, zero, suc, ◌+◌, ◌≤◌, ◌<◌, Bool, true, false, inl, inr, List, [], ◌∷◌, ◌++◌, length, None, Some, refl, sym, ap, subst, ◌∙◌, arith, append_assoc, append-nil, length-append}
+use Rattle.std.proofs.Common.{◌≡◌, ℕ, zero, suc, ◌+◌, ◌-◌, ◌≤◌, ◌<◌, Bool, true, false, inl, inr, List, [], ◌∷◌, ◌++◌, length, None, Some, refl, sym, ap, subst, ◌∙◌, arith, append_assoc, append-nil, length-append}
 use Rattle.std.specs.Prelude.{Option, cond, ◌==◌, if◌then◌else◌, map, find, bytes_eq, codes, Contains, ◌||◌, IfNone}
 use Rattle.std.specs.List.{slice_split, join_with_byte, before_first, after_first, position_or_len, AllByRecursion, IsDistinct, list_any, onto_first}
 use Rattle.std.proofs.lemmas.List.{map-append, length-map}
@@ -10,118 +10,47 @@ use Rattle.std.proofs.lemmas.Map.Keys.{IsDistinct-cons}
 use Rattle.std.proofs.lemmas.Map.Steps.{length-le_from_distinct_below}
 use Rattle.std.proofs.lemmas.Bool.Decides.{nat_tests}
 use Rattle.std.proofs.lemmas.Slice.Eq.{bytes_eq-Decides}
+use Rattle.std.proofs.lemmas.Option.{slice_get_within}
 use Rattle.drg_array.specs.Claims.{test_name}
+use Rattle.drg_array.specs.ClaimOrder.{test_number}
 use Rattle.drg_array.specs.TestLists.{IsSelection, IsTestList, IsNext}
 use Rattle.drg_array.specs.declared.test.Test.{Test}
 use Rattle.drg_array.specs.declared.test.Test.TheVariants.{First, Degree, Order, Cross, Size, Intersect, Handshake, Induced, Triangles, Mult, Krein, Absolute, Triple, Ktriple}
+use Rattle.drg_array.specs.declared.test.TheConstants.Test.{ALL}
 use Rattle.drg_array.specs.declared.test_set.TheConstants.{BUILT}
+use Rattle.drg_array.proofs.TestLaws.{is_named, place, one_name, one_place, found-named}
 
--- ---- a test has one name and one number
-abbrev number_of : Test → ℕ
-number_of First = 0
-number_of Degree = 1
-number_of Order = 2
-number_of Cross = 3
-number_of Size = 4
-number_of Intersect = 5
-number_of Handshake = 6
-number_of Induced = 7
-number_of Triangles = 8
-number_of Mult = 9
-number_of Krein = 10
-number_of Absolute = 11
-number_of Triple = 12
-number_of Ktriple = 13
+-- the place of the test in the list of all tests, from 0
+abbrev place_of : Test → ℕ
+place_of t = test_number t - 1
 
-abbrev all_tests : List Test
-all_tests = First ∷ Degree ∷ Order ∷ Cross ∷ Size ∷ Intersect ∷ Handshake ∷ Induced ∷ Triangles ∷ Mult ∷ Krein ∷ Absolute ∷ Triple ∷ Ktriple ∷ []
-
-abbrev named : List Test → List ℕ → Test
-named [] name = First
-named (t ∷ ts) name = if bytes_eq (test_name t) name then t else named ts name
-
-abbrev numbered : List Test → ℕ → Test
-numbered [] n = First
-numbered (t ∷ ts) n = if number_of t == n then t else numbered ts n
-
-named-is : (t : Test) → named all_tests (test_name t) ≡ t
-named-is First = refl
-named-is Degree = refl
-named-is Order = refl
-named-is Cross = refl
-named-is Size = refl
-named-is Intersect = refl
-named-is Handshake = refl
-named-is Induced = refl
-named-is Triangles = refl
-named-is Mult = refl
-named-is Krein = refl
-named-is Absolute = refl
-named-is Triple = refl
-named-is Ktriple = refl
-
-numbered-is : (t : Test) → numbered all_tests (number_of t) ≡ t
-numbered-is First = refl
-numbered-is Degree = refl
-numbered-is Order = refl
-numbered-is Cross = refl
-numbered-is Size = refl
-numbered-is Intersect = refl
-numbered-is Handshake = refl
-numbered-is Induced = refl
-numbered-is Triangles = refl
-numbered-is Mult = refl
-numbered-is Krein = refl
-numbered-is Absolute = refl
-numbered-is Triple = refl
-numbered-is Ktriple = refl
-
-pub one_name : (t u : Test) → test_name t ≡ test_name u → t ≡ u
-one_name t u e = sym (named-is t) ∙ (ap (named all_tests) e ∙ named-is u)
-
-one_number : (t u : Test) → number_of t ≡ number_of u → t ≡ u
-one_number t u e = sym (numbered-is t) ∙ (ap (numbered all_tests) e ∙ numbered-is u)
-
-small : (t : Test) → number_of t < 14
-small First = omega arith
-small Degree = omega arith
-small Order = omega arith
-small Cross = omega arith
-small Size = omega arith
-small Intersect = omega arith
-small Handshake = omega arith
-small Induced = omega arith
-small Triangles = omega arith
-small Mult = omega arith
-small Krein = omega arith
-small Absolute = omega arith
-small Triple = omega arith
-small Ktriple = omega arith
+small : (t : Test) → place_of t < 14
+small t = slice_get_within ALL (place_of t) t (place t)
 
 -- ---- different tests are at most fourteen
-apart : (t : Test) (ts : List Test) → ¬ Contains ts t → AllByRecursion (λ n. (number_of t == n) ≡ false) (map number_of ts)
+apart : (t : Test) (ts : List Test) → ¬ Contains ts t → AllByRecursion (λ n. (place_of t == n) ≡ false) (map place_of ts)
 apart t [] h = tt
 apart t (u ∷ us) h =
-    let differs : ¬ (number_of t ≡ number_of u) = λ e. h (0, omega arith, sym (one_number t u e)) in
-    let test : (number_of t == number_of u) ≡ false = grind (arith, nat_tests, differs) in
+    let differs : ¬ (place_of t ≡ place_of u) = λ e. h (0, omega arith, sym (one_place t u e)) in
+    let test : (place_of t == place_of u) ≡ false = grind (arith, nat_tests, differs) in
     (test, apart t us (λ k. h (Contains-append_right (u ∷ []) us t k)))
 
-distinct : (ts : List Test) → IsSelection ts → IsDistinct ◌==◌ (map number_of ts)
+distinct : (ts : List Test) → IsSelection ts → IsDistinct ◌==◌ (map place_of ts)
 unfolding IsDistinct
 distinct [] h = tt
-distinct (t ∷ ts) h = IsDistinct-cons ◌==◌ (number_of t) (map number_of ts) (apart t ts h.1) (distinct ts h.2)
+distinct (t ∷ ts) h = IsDistinct-cons ◌==◌ (place_of t) (map place_of ts) (apart t ts h.1) (distinct ts h.2)
 
-below-step : (q : ℕ) (t : Test) (rest : Bool) → (rest ≡ true → q < 14) → (b : Bool) → (q == number_of t) ≡ b → (b || rest) ≡ true → q < 14
-below-step q t rest step true e h = let same : q ≡ number_of t = grind (arith, nat_tests) in omega (arith, same, small t)
+below-step : (q : ℕ) (t : Test) (rest : Bool) → (rest ≡ true → q < 14) → (b : Bool) → (q == place_of t) ≡ b → (b || rest) ≡ true → q < 14
+below-step q t rest step true e h = let same : q ≡ place_of t = grind (arith, nat_tests) in omega (arith, same, small t)
 below-step q t rest step false e h = step h
 
-below : (q : ℕ) (ts : List Test) → list_any (λ n. q == n) (map number_of ts) ≡ true → q < 14
+below : (q : ℕ) (ts : List Test) → list_any (λ n. q == n) (map place_of ts) ≡ true → q < 14
 below q [] h = (cc)
-below q (t ∷ ts) h = below-step q t (list_any (λ n. q == n) (map number_of ts)) (below q ts) (q == number_of t) refl h
+below q (t ∷ ts) h = below-step q t (list_any (λ n. q == n) (map place_of ts)) (below q ts) (q == place_of t) refl h
 
 pub room : (ts : List Test) → IsSelection ts → length ts ≤ 14
 room ts h =
-    let short : length (map number_of ts) ≤ 14 = length-le_from_distinct_below (map number_of ts) 14 (distinct ts h) (λ q k. below q ts k) in
+    let short : length (map place_of ts) ≤ 14 = length-le_from_distinct_below (map place_of ts) 14 (distinct ts h) (λ q k. below q ts k) in
     simp length-map at short
 
 -- ---- one test more
@@ -149,21 +78,10 @@ room-for old t h built fresh =
 pub twice : (old tests : List Test) (t : Test) (name : List ℕ) → test_name t ≡ name → Contains old t → IsNext old name tests → ⊥
 twice old tests t name e among (u, is, named_so, built, fresh) = fresh (subst (Contains old) (one_name t u (e ∙ sym named_so)) among)
 
-found-step : (p : Test → Bool) (u : Test) (us : List Test) (t : Test) (b : Bool) → p u ≡ b → (find p us ≡ Some t → (p t ≡ true) × Contains us t)
-    → cond b (Some u) (find p us) ≡ Some t → (p t ≡ true) × Contains (u ∷ us) t
-found-step p u us t true is step e = let same : u ≡ t = cc in (subst (λ x. p x ≡ true) same is, (0, omega arith, same))
-found-step p u us t false is step e = let k = step e in (k.0, Contains-append_right (u ∷ []) us t k.1)
+pub built-found : (name : List ℕ) (t : Test) → find (is_named name) BUILT ≡ Some t → (test_name t ≡ name) × Contains BUILT t
+built-found name t e = found-named BUILT name t e
 
-found : (p : Test → Bool) (ts : List Test) (t : Test) → find p ts ≡ Some t → (p t ≡ true) × Contains ts t
-found p [] t e = (cc)
-found p (u ∷ us) t e = found-step p u us t (p u) refl (found p us t) e
-
-pub built-found : (name : List ℕ) (t : Test) → find (λ u. bytes_eq (test_name u) name) BUILT ≡ Some t → (test_name t ≡ name) × Contains BUILT t
-built-found name t e =
-    let k = found (λ u. bytes_eq (test_name u) name) BUILT t e in
-    ((bytes_eq-Decides (test_name t) name).0 k.0, k.1)
-
-pub next : (old new : List Test) (t : Test) (name : List ℕ) → new ≡ old ++ t ∷ [] → find (λ u. bytes_eq (test_name u) name) BUILT ≡ Some t → ¬ Contains old t
+pub next : (old new : List Test) (t : Test) (name : List ℕ) → new ≡ old ++ t ∷ [] → find (is_named name) BUILT ≡ Some t → ¬ Contains old t
     → IsNext old name new
 next old new t name e h fresh = let k = built-found name t h in (t, e, k.0, k.1, fresh)
 
@@ -207,7 +125,7 @@ split-at (c ∷ cs) ys h =
     let k = plain-head (c == 44) (plain cs) h in
     slice_split-cons_no (λ b. b == 44) c (cs ++ 44 ∷ ys) k.0 ∙ ap (onto_first c) (split-at cs ys k.1)
 
-pieces-names : (t : Test) (ts : List Test) → pieces (join_with_byte 44 (map test_name (t ∷ ts))) ≡ map test_name (t ∷ ts)
+pub pieces-names : (t : Test) (ts : List Test) → pieces (join_with_byte 44 (map test_name (t ∷ ts))) ≡ map test_name (t ∷ ts)
 pieces-names t [] = split-plain (test_name t) (plain-name t)
 pieces-names t (u ∷ us) =
     split-at (test_name t) (join_with_byte 44 (map test_name (u ∷ us))) (plain-name t) ∙ ap (λ l. test_name t ∷ l) (pieces-names u us)

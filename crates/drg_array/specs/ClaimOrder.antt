@@ -1,8 +1,10 @@
--- The order of the claims: by their numbers, then by their indices.
+-- The numbers of the tests, and the order of the claims: by their names, then by their indices.
 use Rattle.std.specs.Prelude.{◌≡◌, ℕ, ◌<◌, ◌⊎◌, List, [], ◌∷◌}
-use Rattle.drg_array.specs.Claims.{test_of, indices_of}
+use Rattle.drg_array.specs.Claims.{name_of, indices_of}
 use Rattle.drg_array.specs.declared.test.Test.{Test}
 use Rattle.drg_array.specs.declared.test.Test.TheVariants.{First, Degree, Order, Cross, Size, Intersect, Handshake, Induced, Triangles, Mult, Krein, Absolute, Triple, Ktriple}
+use Rattle.drg_array.specs.declared.claim_name.ClaimName.{ClaimName}
+use Rattle.drg_array.specs.declared.claim_name.ClaimName.TheVariants.{OfTest}
 use Rattle.drg_array.specs.declared.claim.Claim.{Claim}
 
 -- which test it is, counted from 1
@@ -22,13 +24,17 @@ test_number Absolute = 12
 test_number Triple = 13
 test_number Ktriple = 14
 
--- the claim is one of this test
+-- the claim is one that an array fails this test
 abbrev pub IsClaimOf : Test → Claim → Type 0
-IsClaimOf t claim = test_of claim ≡ t
+IsClaimOf t claim = name_of claim ≡ OfTest t
 
--- the place of the claim in the order of claims: the number of its test
+-- the place of a name in the order of claims
+abbrev pub name_number : ClaimName → ℕ
+name_number (OfTest t) = test_number t
+
+-- and that of a claim
 abbrev pub claim_number : Claim → ℕ
-claim_number claim = test_number (test_of claim)
+claim_number claim = name_number (name_of claim)
 
 -- the lexicographic order of lists of numbers
 abbrev pub IsBefore : List ℕ → List ℕ → Type 0
@@ -36,7 +42,7 @@ IsBefore ms [] = ⊥
 IsBefore [] (n ∷ ns) = Unit {0}
 IsBefore (m ∷ ms) (n ∷ ns) = (m < n) ⊎ ((m ≡ n) × IsBefore ms ns)
 
--- a claim of an earlier test, or of the same test at earlier indices
+-- a claim with an earlier name, or with the same name and earlier indices
 abbrev pub ComesBefore : Claim → Claim → Type 0
 ComesBefore earlier claim =
     IsBefore (claim_number earlier ∷ indices_of earlier) (claim_number claim ∷ indices_of claim)

@@ -1,10 +1,12 @@
--- The names of the tests, and what a claim says: its test, its indices, its class and its text.
-use Rattle.std.specs.Prelude.{ℕ, List, [], ◌∷◌, ◌++◌, codes, decimal}
+-- The names of the tests and of the claims, and what a claim says: its name, its indices, its class and its text.
+use Rattle.std.specs.Prelude.{◌≡◌, ℕ, List, [], ◌∷◌, ◌++◌, Option, Some, codes, decimal}
 use Rattle.std.specs.List.{flat_map}
 use Rattle.drg_array.specs.declared.test.Test.{Test}
 use Rattle.drg_array.specs.declared.test.Test.TheVariants as test
 use Rattle.drg_array.specs.declared.claim.Class.{Class}
 use Rattle.drg_array.specs.declared.claim.Class.TheVariants.{Counting, Spectral}
+use Rattle.drg_array.specs.declared.claim_name.ClaimName.{ClaimName}
+use Rattle.drg_array.specs.declared.claim_name.ClaimName.TheVariants.{OfTest}
 use Rattle.drg_array.specs.declared.claim.Claim.{Claim}
 use Rattle.drg_array.specs.declared.claim.Claim.TheVariants.{First, Degree, Order, Cross, Size, Intersect, Handshake, Induced, Triangles, Mult, Krein, Absolute, Triple, Ktriple}
 
@@ -45,6 +47,38 @@ class_of_test test.Absolute = Spectral
 class_of_test test.Triple = Counting
 class_of_test test.Ktriple = Spectral
 
+-- how many indices say where the condition of the test is false
+abbrev pub index_count_of_test : Test → ℕ
+index_count_of_test test.First = 0
+index_count_of_test test.Degree = 1
+index_count_of_test test.Order = 1
+index_count_of_test test.Cross = 2
+index_count_of_test test.Size = 1
+index_count_of_test test.Intersect = 3
+index_count_of_test test.Handshake = 1
+index_count_of_test test.Induced = 2
+index_count_of_test test.Triangles = 1
+index_count_of_test test.Mult = 1
+index_count_of_test test.Krein = 3
+index_count_of_test test.Absolute = 2
+index_count_of_test test.Triple = 3
+index_count_of_test test.Ktriple = 3
+
+-- a claim that an array fails a test has the test's name
+abbrev pub name_text : ClaimName → List ℕ
+name_text (OfTest t) = test_name t
+
+-- the test that an array fails which meets a claim of this name, where there is one
+abbrev pub test_named : ClaimName → Option Test
+test_named (OfTest t) = Some t
+
+abbrev pub class_of_name : ClaimName → Class
+class_of_name (OfTest t) = class_of_test t
+
+-- how many indices a claim of this name has
+abbrev pub index_count : ClaimName → ℕ
+index_count (OfTest t) = index_count_of_test t
+
 -- the test that fails
 abbrev pub test_of : Claim → Test
 test_of First = test.First
@@ -61,6 +95,10 @@ test_of (Krein i j h) = test.Krein
 test_of (Absolute i j) = test.Absolute
 test_of (Triple u v w) = test.Triple
 test_of (Ktriple u v w) = test.Ktriple
+
+-- the name of the claim that an array fails the test
+abbrev pub name_of : Claim → ClaimName
+name_of claim = OfTest (test_of claim)
 
 -- the indices at which it fails, in the order in which they are written
 abbrev pub indices_of : Claim → List ℕ
@@ -79,12 +117,16 @@ indices_of (Absolute i j) = i ∷ j ∷ []
 indices_of (Triple u v w) = u ∷ v ∷ w ∷ []
 indices_of (Ktriple u v w) = u ∷ v ∷ w ∷ []
 
+-- the claim has this name and these indices
+abbrev pub HasParts : ClaimName → List ℕ → Claim → Type 0
+HasParts name indices claim = (name_of claim ≡ name) × (indices_of claim ≡ indices)
+
 abbrev pub class_of : Claim → Class
-class_of claim = class_of_test (test_of claim)
+class_of claim = class_of_name (name_of claim)
 
 -- the numbers, with one space before each
 abbrev pub spaced : List ℕ → List ℕ
 spaced numbers = flat_map (λ n. 32 ∷ decimal n) numbers
 
 abbrev pub claim_text : Claim → List ℕ
-claim_text claim = test_name (test_of claim) ++ spaced (indices_of claim)
+claim_text claim = name_text (name_of claim) ++ spaced (indices_of claim)

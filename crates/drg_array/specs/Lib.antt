@@ -1,3 +1,4 @@
+pub mod CatalogueLaws
 pub mod ClaimOrder
 pub mod Claims
 pub mod ConditionLaws

@@ -1,9 +1,11 @@
 //! What an array fails, and how it is written.
 
-ghost use Rattle.std.specs.Prelude.{◌≡◌, ◌++◌, OnOk};
-ghost use Rattle.drg_array.specs.Claims.{class_name, class_of, claim_text, spaced, test_of};
+ghost use Rattle.std.specs.Prelude.{◌≡◌, ◌↔◌, [], ◌∷◌, ◌++◌, length, Some, IsSome, IfSome, OnOk};
+ghost use Rattle.drg_array.specs.ClaimOrder.{IsClaimOf};
+ghost use Rattle.drg_array.specs.Claims.{class_name, class_of, claim_text, HasParts, index_count, name_of, spaced};
+ghost use Rattle.drg_array.specs.declared.test.Test.{Test as TheTest};
 
-use crate::Test;
+use crate::{ClaimName, Test};
 use itoa::Buffer;
 use std::alloc::AllocError;
 
@@ -46,44 +48,62 @@ pub enum Claim {
 }
 
 impl Claim {
-    /// The test that fails.
-    pub fn test(&self) -> Test
-        ensures { result ≡ test_of self.now }
+    /// The claim of this name with these indices, where they are as many as it has.
+    pub fn of(name: ClaimName, indices: &[u8]) -> Option<Claim>
+        ensures some { IsSome result ↔ (length indices.now ≡ index_count name) }
+        ensures claim { IfSome result (HasParts name indices.now) }
     {
-        match self {
-            Claim::First => Test::First,
-            Claim::Degree { .. } => Test::Degree,
-            Claim::Order { .. } => Test::Order,
-            Claim::Cross { .. } => Test::Cross,
-            Claim::Size { .. } => Test::Size,
-            Claim::Intersect { .. } => Test::Intersect,
-            Claim::Handshake { .. } => Test::Handshake,
-            Claim::Induced { .. } => Test::Induced,
-            Claim::Triangles { .. } => Test::Triangles,
-            Claim::Mult { .. } => Test::Mult,
-            Claim::Krein { .. } => Test::Krein,
-            Claim::Absolute { .. } => Test::Absolute,
-            Claim::Triple { .. } => Test::Triple,
-            Claim::Ktriple { .. } => Test::Ktriple,
+        match *indices {
+            [] => claim_of_none(name),
+            [i] => claim_of_one(name, i),
+            [i, j] => claim_of_two(name, i, j),
+            [i, j, h] => claim_of_three(name, i, j, h),
+            _ => None,
         }
     }
 
-    /// The class of the test that fails.
+    /// The name.
+    pub fn name(&self) -> ClaimName
+        ensures { result ≡ name_of self.now }
+    {
+        match self {
+            Claim::First => ClaimName::OfTest(Test::First),
+            Claim::Degree { .. } => ClaimName::OfTest(Test::Degree),
+            Claim::Order { .. } => ClaimName::OfTest(Test::Order),
+            Claim::Cross { .. } => ClaimName::OfTest(Test::Cross),
+            Claim::Size { .. } => ClaimName::OfTest(Test::Size),
+            Claim::Intersect { .. } => ClaimName::OfTest(Test::Intersect),
+            Claim::Handshake { .. } => ClaimName::OfTest(Test::Handshake),
+            Claim::Induced { .. } => ClaimName::OfTest(Test::Induced),
+            Claim::Triangles { .. } => ClaimName::OfTest(Test::Triangles),
+            Claim::Mult { .. } => ClaimName::OfTest(Test::Mult),
+            Claim::Krein { .. } => ClaimName::OfTest(Test::Krein),
+            Claim::Absolute { .. } => ClaimName::OfTest(Test::Absolute),
+            Claim::Triple { .. } => ClaimName::OfTest(Test::Triple),
+            Claim::Ktriple { .. } => ClaimName::OfTest(Test::Ktriple),
+        }
+    }
+
+    /// The test that an array fails which meets the claim. There can be none.
+    pub fn test(&self) -> Option<Test>
+        ensures { (t : TheTest) → (result ≡ Some t) ↔ IsClaimOf t self.now }
+    {
+        self.name().test()
+    }
+
+    /// The class of the claim.
     pub fn class(&self) -> Class
         ensures { result ≡ class_of self.now }
     {
-        match self.test() {
-            Test::Mult | Test::Krein | Test::Absolute | Test::Ktriple => Class::Spectral,
-            _ => Class::Counting,
-        }
+        self.name().class()
     }
 
-    /// Appends the test's name and the indices, with one space before each. After an error a part
-    /// of it may be appended.
+    /// Appends the name and the indices, with one space before each. After an error a part of it
+    /// may be appended.
     pub fn write_text(&self, out: &mut Vec<u8>) -> Result<(), AllocError>
         ensures ok { OnOk result (out.new.items ≡ out.old.items ++ claim_text self.now) }
     {
-        self.test().write_text(out)?;
+        out.extend_from_slice(self.name().text().as_bytes())?;
         match self {
             Claim::First => Ok(()),
             Claim::Degree { i }
@@ -101,6 +121,76 @@ impl Claim {
                 write_spaced(&[*u, *v, *w], out)
             }
         }
+    }
+}
+
+/// The claim of this name without indices.
+fn claim_of_none(name: ClaimName) -> Option<Claim>
+    ensures some { IsSome result ↔ (index_count name ≡ 0) }
+    ensures claim { IfSome result (HasParts name []) }
+{
+    match name {
+        ClaimName::OfTest(Test::First) => Some(Claim::First),
+        _ => None,
+    }
+}
+
+/// The claim of this name with one index.
+fn claim_of_one(name: ClaimName, i: u8) -> Option<Claim>
+    ensures some { IsSome result ↔ (index_count name ≡ 1) }
+    ensures claim { IfSome result (HasParts name (i ∷ [])) }
+{
+    match name {
+        ClaimName::OfTest(Test::Degree) => Some(Claim::Degree { i }),
+        ClaimName::OfTest(Test::Order) => Some(Claim::Order { i }),
+        ClaimName::OfTest(Test::Size) => Some(Claim::Size { i }),
+        ClaimName::OfTest(Test::Handshake) => Some(Claim::Handshake { i }),
+        ClaimName::OfTest(Test::Triangles) => Some(Claim::Triangles { i }),
+        ClaimName::OfTest(Test::Mult) => Some(Claim::Mult { i }),
+        _ => None,
+    }
+}
+
+/// The claim of this name with two indices.
+fn claim_of_two(name: ClaimName, i: u8, j: u8) -> Option<Claim>
+    ensures some { IsSome result ↔ (index_count name ≡ 2) }
+    ensures claim { IfSome result (HasParts name (i ∷ j ∷ [])) }
+{
+    match name {
+        ClaimName::OfTest(Test::Cross) => Some(Claim::Cross { i, j }),
+        ClaimName::OfTest(Test::Induced) => Some(Claim::Induced { i, j }),
+        ClaimName::OfTest(Test::Absolute) => Some(Claim::Absolute { i, j }),
+        _ => None,
+    }
+}
+
+/// The claim of this name with three indices, in the order in which they are written.
+fn claim_of_three(name: ClaimName, first: u8, second: u8, third: u8) -> Option<Claim>
+    ensures some { IsSome result ↔ (index_count name ≡ 3) }
+    ensures claim { IfSome result (HasParts name (first ∷ second ∷ third ∷ [])) }
+{
+    match name {
+        ClaimName::OfTest(Test::Intersect) => Some(Claim::Intersect {
+            h: first,
+            i: second,
+            j: third,
+        }),
+        ClaimName::OfTest(Test::Krein) => Some(Claim::Krein {
+            i: first,
+            j: second,
+            h: third,
+        }),
+        ClaimName::OfTest(Test::Triple) => Some(Claim::Triple {
+            u: first,
+            v: second,
+            w: third,
+        }),
+        ClaimName::OfTest(Test::Ktriple) => Some(Claim::Ktriple {
+            u: first,
+            v: second,
+            w: third,
+        }),
+        _ => None,
     }
 }
 

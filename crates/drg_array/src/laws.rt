@@ -1,6 +1,11 @@
-//! Laws of texts, for callers that need them: each is a fact about a grammar alone.
+//! Laws for callers that need them: of texts, each a fact about a grammar alone, of the limits, and
+//! of the catalogue of tests and claims.
 
+ghost use Rattle.std.specs.Prelude.{◌≡◌};
+ghost use Rattle.drg_array.specs.CatalogueLaws.{AllInOrder, AreBuilt, AreReplayed, BuiltAreReplayed, ClaimByName, ClaimsInOrder, OneClaimName, OneTestName, OneTestNumber};
 ghost use Rattle.drg_array.specs.Laws.{OneArray, OneFault, ArrayOrFault, NotBoth, CanonicalIsText, OneTestList};
+
+use crate::{BUILT, MAX_DIAMETER, MAX_ENTRY, REPLAYED};
 
 /// Each text is the text of one array, or has one fault, and never both. The canonical text of an
 /// array is a text of that array, so that it is read again as the same array.
@@ -15,4 +20,29 @@ pub fn text_law()
 /// Each text is the text of one list of tests at most.
 pub fn test_list_law()
     ensures { OneTestList }
+{}
+
+/// The limits are these numbers.
+pub fn limit_law()
+    ensures diameter { MAX_DIAMETER ≡ 12 }
+    ensures entry { MAX_ENTRY ≡ 4095 }
+{}
+
+/// The list of all tests has each of them at its number, and each has one name. The tests from
+/// handshake on that are built, and the claims that a replay knows, are these.
+pub fn test_law()
+    ensures all { AllInOrder }
+    ensures one_name { OneTestName }
+    ensures one_number { OneTestNumber }
+    ensures built { AreBuilt BUILT }
+    ensures replayed { AreReplayed REPLAYED }
+    ensures both { BuiltAreReplayed }
+{}
+
+/// A claim is known by its name and its indices, and its name by its text. The order of claims is a
+/// strict one, in which any two of them are comparable.
+pub fn claim_law()
+    ensures one_name { OneClaimName }
+    ensures by_name { ClaimByName }
+    ensures order { ClaimsInOrder }
 {}

@@ -8,6 +8,7 @@
 
 mod array;
 mod claim;
+mod claim_name;
 mod fault;
 mod laws;
 mod limits;
@@ -19,8 +20,9 @@ mod test_set;
 
 pub use array::Array;
 pub use claim::{Claim, Class};
+pub use claim_name::{ClaimName, REPLAYED};
 pub use fault::{ArrayFault, ArrayKind};
-pub use laws::{test_list_law, text_law};
+pub use laws::{claim_law, limit_law, test_law, test_list_law, text_law};
 pub use limits::{MAX_DIAMETER, MAX_ENTRY};
 pub use node::Node;
 pub use numbers::{condition_law, example_law, number_law};

@@ -159,8 +159,10 @@ impl Reader {
 fn further(value: u16, digit: u8) -> Result<Next, ArrayKind>
     requires value { value ≤ MAX_ENTRY }
     requires digit { (48 ≤ digit) × (digit ≤ 57) }
-    ensures ok { IfOk result (λ next. (next ≡ Next.Digit (value * 10 + (digit - 48))) × (value * 10 + (digit - 48) ≤ MAX_ENTRY)) }
-    ensures err { IfErr result (λ kind. (kind ≡ ArrayKind.Large) × (MAX_ENTRY < value * 10 + (digit - 48))) }
+    ensures ok { IfOk result (λ next. (next ≡ Next.Digit (value * 10 + (digit - 48)))
+        × (value * 10 + (digit - 48) ≤ MAX_ENTRY)) }
+    ensures err { IfErr result (λ kind. (kind ≡ ArrayKind.Large)
+        × (MAX_ENTRY < value * 10 + (digit - 48))) }
 {
     let value = value * 10 + u16::from(digit - b'0');
     if value > MAX_ENTRY {

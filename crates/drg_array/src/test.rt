@@ -1,8 +1,11 @@
 //! The names of the fourteen tests.
 
-ghost use Rattle.std.specs.Prelude.{◌≡◌, ◌++◌, OnOk};
-ghost use Rattle.drg_array.specs.Claims.{test_name};
+ghost use Rattle.std.specs.Prelude.{◌≡◌, ◌↔◌, ◌++◌, IsTrue, OnOk};
+ghost use Rattle.drg_array.specs.Claims.{class_of_test, index_count_of_test, test_name};
+ghost use Rattle.drg_array.specs.ClaimOrder.{test_number};
+ghost use Rattle.drg_array.specs.TestLists.{IsAlwaysRun};
 
+use crate::Class;
 use std::alloc::AllocError;
 
 /// A feasibility condition, in the order in which the conditions are tested: each holds where its
@@ -42,6 +45,38 @@ pub enum Test {
 }
 
 impl Test {
+    /// The tests, in their order.
+    pub const ALL: [Test; 14] = [
+        Test::First,
+        Test::Degree,
+        Test::Order,
+        Test::Cross,
+        Test::Size,
+        Test::Intersect,
+        Test::Handshake,
+        Test::Induced,
+        Test::Triangles,
+        Test::Mult,
+        Test::Krein,
+        Test::Absolute,
+        Test::Triple,
+        Test::Ktriple,
+    ];
+
+    /// Its place in their order, from 1.
+    pub fn number(&self) -> u8
+        ensures { result ≡ test_number self.now }
+    {
+        *self as u8 + 1
+    }
+
+    /// Whether it runs whatever is selected, as the first six do.
+    pub fn always_runs(&self) -> bool
+        ensures { IsTrue result ↔ IsAlwaysRun self.now }
+    {
+        self.number() <= 6
+    }
+
     /// The name, in lowercase letters.
     pub fn name(&self) -> &'static str
         ensures { result.now ≡ test_name self.now }
@@ -61,6 +96,33 @@ impl Test {
             Test::Absolute => "absolute",
             Test::Triple => "triple",
             Test::Ktriple => "ktriple",
+        }
+    }
+
+    /// The class of the claims that an array fails it.
+    pub fn class(&self) -> Class
+        ensures { result ≡ class_of_test self.now }
+    {
+        match self {
+            Test::Mult | Test::Krein | Test::Absolute | Test::Ktriple => Class::Spectral,
+            _ => Class::Counting,
+        }
+    }
+
+    /// How many indices say where its condition is false.
+    pub(crate) fn index_count(&self) -> usize
+        ensures { result ≡ index_count_of_test self.now }
+    {
+        match self {
+            Test::First => 0,
+            Test::Degree
+            | Test::Order
+            | Test::Size
+            | Test::Handshake
+            | Test::Triangles
+            | Test::Mult => 1,
+            Test::Cross | Test::Induced | Test::Absolute => 2,
+            Test::Intersect | Test::Krein | Test::Triple | Test::Ktriple => 3,
         }
     }
 
