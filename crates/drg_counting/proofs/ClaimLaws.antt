@@ -3,10 +3,10 @@ use Rattle.std.proofs.Common.{◌≡◌, ℕ, ◌<◌, List, [], ◌∷◌, subs
 use Rattle.std.specs.Prelude.{◌⊎◌}
 use Rattle.drg_array.specs.Entries.{Entries, c_at}
 use Rattle.drg_array.specs.Conditions.{CountsFail}
-use Rattle.drg_array.specs.Claims.{test_of, indices_of}
+use Rattle.drg_array.specs.Claims.{indices_of}
 use Rattle.drg_array.specs.declared.claim.Claim.{Claim}
 use Rattle.drg_array.specs.declared.claim.Claim.TheVariants.{First, Degree, Order, Cross}
-use Rattle.drg_array.specs.ClaimOrder.{test_number, IsBefore, ComesBefore}
+use Rattle.drg_array.specs.ClaimOrder.{claim_number, IsBefore, ComesBefore}
 use Rattle.drg_counting.specs.EntryTests.{IsBasic}
 
 later : (m n : ℕ) (ms ns : List ℕ) → n < m → IsBefore (m ∷ ms) (n ∷ ns) → ⊥
@@ -14,8 +14,8 @@ later m n ms ns h (inl less) = omega arith
 later m n ms ns h (inr same) = let e = same.0 in omega arith
 
 -- a claim of a later test doesn't come before
-pub later_test : (earlier claim : Claim) → test_number (test_of claim) < test_number (test_of earlier) → ComesBefore earlier claim → ⊥
-later_test earlier claim h before = later (test_number (test_of earlier)) (test_number (test_of claim)) (indices_of earlier) (indices_of claim) h before
+pub later_test : (earlier claim : Claim) → claim_number claim < claim_number earlier → ComesBefore earlier claim → ⊥
+later_test earlier claim h before = later (claim_number earlier) (claim_number claim) (indices_of earlier) (indices_of claim) h before
 
 pub within : (n : ℕ) (ms ns : List ℕ) → IsBefore (n ∷ ms) (n ∷ ns) → IsBefore ms ns
 within n ms ns (inl less) = absurd (omega arith)

@@ -1,9 +1,10 @@
 -- What the numbers of an array fail, the array fails, and the claims before a failing one.
-use Rattle.std.proofs.Common.{◌≡◌, ℕ, ◌*◌, ◌%◌, ◌<◌, ◌≤◌, List, [], ◌∷◌, sym, ap, ap₂, ◌∙◌, subst, arith, inl, inr}
-use Rattle.std.specs.Prelude.{pos, ◌≢◌, Contains}
+use Rattle.std.proofs.Common.{◌≡◌, ℕ, ◌<◌, ◌≤◌, List, [], ◌∷◌, sym, ap, ap₂, ◌∙◌, subst, arith, inl, inr}
+use Rattle.std.specs.Prelude.{◌≢◌, ℤ, pos, ◌*ℤ◌, Contains}
 use Rattle.drg_algebra.specs.Rational.{ℚ, whole, times}
 use Rattle.drg_algebra.proofs.Maps.{whole_map}
-use Rattle.drg_algebra.proofs.Whole.{multiple-leaves-no-rest}
+use Rattle.drg_whole.specs.Residues.{residue}
+use Rattle.drg_whole.proofs.Residues.{divided, undivided}
 use Rattle.drg_array.specs.Entries.{Entries, IsArray, diameter}
 use Rattle.drg_array.specs.Numbers.{size, vertex_count, IsIntersectionNumber, IsWholeMultiple}
 use Rattle.drg_array.specs.Conditions.{CountsFail, IsPlace}
@@ -15,34 +16,34 @@ use Rattle.drg_array.proofs.NumberLaws.{one_number}
 use Rattle.drg_intersection.specs.Numbers.{Numbers, AreNumbersOf, k_at, n_of, p_at}
 use Rattle.drg_intersection.proofs.Ranges.{one_whole}
 use Rattle.drg_array.specs.ClaimOrder.{ComesBefore}
-use Rattle.drg_counting.specs.Parity.{IsSelectedParity, IsIndex, NumbersFail}
+use Rattle.drg_counting.specs.Parity.{IsSelectedParity, IsDistance, NumbersFail}
 use Rattle.drg_counting.proofs.ClaimLaws.{later_test, within, one_index, two_indices}
 
-no_multiple : (m t : ℕ) (x : ℚ) → 1 ≤ m → x ≡ whole (pos t) → t % m ≢ 0 → ¬ IsWholeMultiple m x
-no_multiple m t x positive e rest (z, f) = rest ((multiple-leaves-no-rest m t positive).0 (z, one_whole _ _ (sym e ∙ f)))
+no_multiple : (m : ℕ) (z : ℤ) (x : ℚ) → 0 < m → x ≡ whole z → residue m z ≢ 0 → ¬ IsWholeMultiple m x
+no_multiple m z x positive e rest (q, f) = rest (undivided m z positive (q, sym (one_whole z (pos m *ℤ q) (sym e ∙ f))))
 
-rest_of : (m t : ℕ) (x : ℚ) → 1 ≤ m → x ≡ whole (pos t) → ¬ IsWholeMultiple m x → t % m ≢ 0
-rest_of m t x positive e failed none = (let found = (multiple-leaves-no-rest m t positive).1 none in failed (found.0, e ∙ ap whole found.1))
+rest_of : (m : ℕ) (z : ℤ) (x : ℚ) → 0 < m → x ≡ whole z → ¬ IsWholeMultiple m x → residue m z ≢ 0
+rest_of m z x positive e failed none = let (q, f) = divided m z positive none in failed (q, e ∙ ap whole (sym f))
 
-product_of : (x y : ℚ) (m n : ℕ) → x ≡ whole (pos m) → y ≡ whole (pos n) → times x y ≡ whole (pos (m * n))
-product_of x y m n e f = ap₂ times e f ∙ sym (whole_map.times (pos m) (pos n))
+product_of : (x y : ℚ) (w z : ℤ) → x ≡ whole w → y ≡ whole z → times x y ≡ whole (w *ℤ z)
+product_of x y w z e f = ap₂ times e f ∙ sym (whole_map.times w z)
 
 module _ (a : Entries) (numbers : Numbers) (array : IsArray a) (are : AreNumbersOf a numbers) where
-  place : (i : ℕ) → IsIndex numbers i → IsPlace a i
+  place : (i : ℕ) → IsDistance numbers i → IsPlace a i
   place i (one, top) = (let same = are.same_d in (one, omega (arith, top, same)))
 
-  index : (i : ℕ) → IsPlace a i → IsIndex numbers i
+  index : (i : ℕ) → IsPlace a i → IsDistance numbers i
   index i (one, top) = (let same = are.same_d in (one, omega (arith, top, same)))
 
-  handshake : (i : ℕ) → i ≤ diameter a → times (vertex_count a) (size a i) ≡ whole (pos (n_of numbers * k_at numbers i))
-  handshake i top = product_of _ _ (n_of numbers) (k_at numbers i) are.vertices (are.sizes i top)
+  handshake : (i : ℕ) → i ≤ diameter a → times (vertex_count a) (size a i) ≡ whole (pos (n_of numbers) *ℤ pos (k_at numbers i))
+  handshake i top = product_of _ _ (pos (n_of numbers)) (pos (k_at numbers i)) are.vertices (are.sizes i top)
 
-  induced : (i j : ℕ) (x : ℚ) → i ≤ diameter a → j ≤ diameter a → IsIntersectionNumber a i i j x → times (size a i) x ≡ whole (pos (k_at numbers i * p_at numbers i i j))
+  induced : (i j : ℕ) (x : ℚ) → i ≤ diameter a → j ≤ diameter a → IsIntersectionNumber a i i j x → times (size a i) x ≡ whole (pos (k_at numbers i) *ℤ pos (p_at numbers i i j))
   induced i j x top right is =
-      product_of _ _ (k_at numbers i) (p_at numbers i i j) (are.sizes i top) (one_number a i i j x _ array top right is (are.intersections i i j top top right))
+      product_of _ _ (pos (k_at numbers i)) (pos (p_at numbers i i j)) (are.sizes i top) (one_number a i i j x _ array top right is (are.intersections i i j top top right))
 
-  triangles : (i : ℕ) (x : ℚ) → i ≤ diameter a → IsIntersectionNumber a i i i x → times (vertex_count a) (times (size a i) x) ≡ whole (pos (n_of numbers * (k_at numbers i * p_at numbers i i i)))
-  triangles i x top is = product_of _ _ (n_of numbers) (k_at numbers i * p_at numbers i i i) are.vertices (induced i i x top top is)
+  triangles : (i : ℕ) (x : ℚ) → i ≤ diameter a → IsIntersectionNumber a i i i x → times (vertex_count a) (times (size a i) x) ≡ whole (pos (n_of numbers) *ℤ (pos (k_at numbers i) *ℤ pos (p_at numbers i i i)))
+  triangles i x top is = product_of _ _ (pos (n_of numbers)) (pos (k_at numbers i) *ℤ pos (p_at numbers i i i)) are.vertices (induced i i x top top is)
 
   pub fails_of : (claim : Claim) → NumbersFail numbers claim → CountsFail a claim
   fails_of (Handshake i) (at, rest) = (let here = place i at in (here, no_multiple 2 _ _ (omega arith) (handshake i here.1) rest))

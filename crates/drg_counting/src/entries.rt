@@ -7,23 +7,19 @@ ghost use Rattle.drg_array.specs.declared.claim.Claim.TheVariants.{First, Degree
 ghost use Rattle.drg_array.specs.ClaimOrder.{ComesBefore};
 ghost use Rattle.drg_counting.specs.EntryTests.{IsBasic};
 
+use crate::indices::TwoIndices;
 use drg_array::{Array, Claim};
-
-/// The indices at which the test cross fails.
-#[derive(Clone, Copy)]
-struct Crossing {
-    i: u8,
-    j: u8,
-}
 
 /// The first failing claim of the tests first, degree, order and cross.
 pub fn basic(array: &Array) -> Option<Claim>
     ensures basic { IfSome result IsBasic }
     ensures fails { IfSome result (CountsFail array.now) }
-    ensures first { IfSome result (λ claim. (earlier : Claim) → ComesBefore earlier claim → CountsFail array.now earlier → ⊥) }
-    ensures none { IfNone result ((claim : Claim) → IsBasic claim → CountsFail array.now claim → ⊥) }
+    ensures first { IfSome result (λ claim. (earlier : Claim) →
+        ComesBefore earlier claim → CountsFail array.now earlier → ⊥) }
+    ensures none { IfNone result ((claim : Claim) →
+        IsBasic claim → CountsFail array.now claim → ⊥) }
 {
-    let _ = array.d();
+    array.known_valid();
     if array.c(1) != 1 {
         return Some(Claim::First);
     }
@@ -68,15 +64,17 @@ fn first_order(array: &Array) -> Option<u8>
 }
 
 /// The first i and j with `i + j <= d` and `c_i > b_j`.
-fn first_cross(array: &Array) -> Option<Crossing>
+fn first_cross(array: &Array) -> Option<TwoIndices>
     ensures fails { IfSome result (λ at. CountsFail array.now (Cross at.i at.j)) }
-    ensures first { IfSome result (λ at. (i j : ℕ) → i < at.i → CountsFail array.now (Cross i j) → ⊥) }
-    ensures same { IfSome result (λ at. (j : ℕ) → j < at.j → CountsFail array.now (Cross at.i j) → ⊥) }
+    ensures first { IfSome result (λ at. (i j : ℕ) →
+        i < at.i → CountsFail array.now (Cross i j) → ⊥) }
+    ensures same { IfSome result (λ at. (j : ℕ) →
+        j < at.j → CountsFail array.now (Cross at.i j) → ⊥) }
     ensures none { IfNone result ((i j : ℕ) → CountsFail array.now (Cross i j) → ⊥) }
 {
     'indices: for i in 1..array.d() + 1 {
         if let Some(j) = first_cross_at(array, i) {
-            return Some(Crossing { i: i as u8, j });
+            return Some(TwoIndices { i: i as u8, j });
         }
     }
     None
