@@ -1,11 +1,10 @@
 -- Which claims an array doesn't fail, where no claim on its entries fails and some of its numbers pass.
 use Rattle.std.proofs.Common.{◌≡◌, ℕ, ◌<◌, ◌≤◌, List, [], ◌∷◌, refl, arith, inl, inr}
 use Rattle.drg_array.specs.Entries.{Entries}
-use Rattle.drg_array.specs.Claims.{class_of, test_of}
+use Rattle.drg_array.specs.Claims.{test_of}
 use Rattle.drg_array.specs.Conditions.{CountsFail}
 use Rattle.drg_array.specs.declared.claim.Claim.{Claim}
 use Rattle.drg_array.specs.declared.claim.Claim.TheVariants.{First, Degree, Order, Cross, Size, Intersect, Handshake, Induced, Triangles}
-use Rattle.drg_array.specs.declared.claim.Class.TheVariants.{Counting}
 use Rattle.drg_array.specs.declared.node.Node.{Node}
 use Rattle.drg_array.specs.declared.node.Node.TheVariants.{K, N, P}
 use Rattle.drg_array.specs.declared.test.Test.{Test}
@@ -16,64 +15,49 @@ use Rattle.drg_counting.specs.Parity.{IsSelectedParity}
 use Rattle.drg_counting.proofs.ClaimLaws.{later_test, within, one_index, two_indices}
 use Rattle.drg_intersection.specs.Faults.{AllPass, IsNumbersFault, IsFirstWide, IsReached, Passes, IsBefore as IsNodeBefore}
 use Rattle.drg_intersection.specs.declared.fault.NumbersFault.TheVariants.{Fall}
-use Rattle.drg_engine.specs.Verdicts.{IsEarlier, IsFirstFailing, IsNodeOf, Runs}
+use Rattle.drg_engine.specs.Conditions.{Fails, IsBuilt}
+use Rattle.drg_engine.specs.Selections.{IsEarlier, Runs}
+use Rattle.drg_engine.specs.Verdicts.{IsFirstFailing, IsNodeOf}
+use Rattle.drg_engine.proofs.BuiltTests.{counts_fail, fails_by_counts, is_built}
 
-pub small_claim : (a : Entries) (claim : Claim) → CountsFail a claim → test_number (test_of claim) ≤ 9
-small_claim a First fails = omega arith
-small_claim a (Degree i) fails = omega arith
-small_claim a (Order i) fails = omega arith
-small_claim a (Cross i j) fails = omega arith
-small_claim a (Size i) fails = omega arith
-small_claim a (Intersect h i j) fails = omega arith
-small_claim a (Handshake i) fails = omega arith
-small_claim a (Induced i j) fails = omega arith
-small_claim a (Triangles i) fails = omega arith
-small_claim a claim fails = absurd fails
+pub node_test_built : (last : Test) (node : Node) → IsNodeOf last node → IsBuilt last
+node_test_built test.Size node part = tt
+node_test_built test.Intersect node part = tt
+node_test_built last node part = absurd part
 
-pub counting_claim : (a : Entries) (claim : Claim) → CountsFail a claim → class_of claim ≡ Counting
-counting_claim a First fails = refl
-counting_claim a (Degree i) fails = refl
-counting_claim a (Order i) fails = refl
-counting_claim a (Cross i j) fails = refl
-counting_claim a (Size i) fails = refl
-counting_claim a (Intersect h i j) fails = refl
-counting_claim a (Handshake i) fails = refl
-counting_claim a (Induced i j) fails = refl
-counting_claim a (Triangles i) fails = refl
-counting_claim a claim fails = absurd fails
-
-pub node_test_small : (last : Test) (node : Node) → IsNodeOf last node → test_number last ≤ 9
-node_test_small test.Size node part = omega arith
-node_test_small test.Intersect node part = omega arith
-node_test_small last node part = absurd part
-
-passes_size : (a : Entries) (i : ℕ) → Passes a (K i) → CountsFail a (Size i) → ⊥
+passes_size : (a : Entries) (i : ℕ) → Passes a (K i) → Fails a (Size i) → ⊥
 passes_size a i passes fails = fails.1 passes.right
 
-passes_number : (a : Entries) (h i j : ℕ) → Passes a (P h i j) → CountsFail a (Intersect h i j) → ⊥
+passes_number : (a : Entries) (h i j : ℕ) → Passes a (P h i j) → Fails a (Intersect h i j) → ⊥
 passes_number a h i j passes (low, middle, high, x, is, fails) = fails (passes.right x is)
 
 three_indices : (h i j k l m : ℕ) → IsBefore (h ∷ i ∷ j ∷ []) (k ∷ l ∷ m ∷ []) → IsNodeBefore (P h i j) (P k l m)
 three_indices h i j k l m (inl less) = inl less
 three_indices h i j k l m (inr same) = inr (same.0, two_indices i j l m same.1)
 
-basic_runs : (tests : List Test) (claim : Claim) → IsBasic claim → Runs tests (test_of claim)
-basic_runs tests First basic = inl tt
-basic_runs tests (Degree i) basic = inl tt
-basic_runs tests (Order i) basic = inl tt
-basic_runs tests (Cross i j) basic = inl tt
+pub basic_runs : (tests : List Test) (claim : Claim) → IsBasic claim → Runs tests (test_of claim)
+basic_runs tests First basic = (tt, inl (omega arith))
+basic_runs tests (Degree i) basic = (tt, inl (omega arith))
+basic_runs tests (Order i) basic = (tt, inl (omega arith))
+basic_runs tests (Cross i j) basic = (tt, inl (omega arith))
 basic_runs tests claim basic = absurd (omega (arith, basic))
+
+basic_built : (claim : Claim) → IsBasic claim → IsBuilt (test_of claim)
+basic_built claim basic = is_built (test_of claim) (omega (arith, basic))
+
+pub none_basic : (a : Entries) → ((claim : Claim) → IsBasic claim → CountsFail a claim → ⊥) → (claim : Claim) → IsBasic claim → Fails a claim → ⊥
+none_basic a none claim basic fails = none claim basic (counts_fail a claim (basic_built claim basic) fails)
 
 pub basic_first : (a : Entries) (tests : List Test) (claim : Claim) → IsBasic claim → CountsFail a claim
     → ((earlier : Claim) → ComesBefore earlier claim → CountsFail a earlier → ⊥) → IsFirstFailing a tests claim
 basic_first a tests claim basic fails first = record {
   runs = basic_runs tests claim basic;
-  fails = fails;
-  first = λ earlier before runs. first earlier before;
+  fails = fails_by_counts a claim fails;
+  first = λ earlier before runs failed. first earlier before (counts_fail a earlier runs.0 failed);
 }
 
-module _ (a : Entries) (no_basic : (claim : Claim) → IsBasic claim → CountsFail a claim → ⊥) where
-  before_size : (i : ℕ) → IsReached a (K i) → (earlier : Claim) → ComesBefore earlier (Size i) → CountsFail a earlier → ⊥
+module _ (a : Entries) (no_basic : (claim : Claim) → IsBasic claim → Fails a claim → ⊥) where
+  before_size : (i : ℕ) → IsReached a (K i) → (earlier : Claim) → ComesBefore earlier (Size i) → Fails a earlier → ⊥
   before_size i reached First before fails = no_basic First (omega arith) fails
   before_size i reached (Degree l) before fails = no_basic (Degree l) (omega arith) fails
   before_size i reached (Order l) before fails = no_basic (Order l) (omega arith) fails
@@ -81,7 +65,7 @@ module _ (a : Entries) (no_basic : (claim : Claim) → IsBasic claim → CountsF
   before_size i reached (Size l) before fails = passes_size a l (reached (K l) fails.0.1 (one_index l i (within 5 (l ∷ []) (i ∷ []) before))) fails
   before_size i reached claim before fails = later_test claim (Size i) (omega arith) before
 
-  before_number : (h i j : ℕ) → IsReached a (P h i j) → (earlier : Claim) → ComesBefore earlier (Intersect h i j) → CountsFail a earlier → ⊥
+  before_number : (h i j : ℕ) → IsReached a (P h i j) → (earlier : Claim) → ComesBefore earlier (Intersect h i j) → Fails a earlier → ⊥
   before_number h i j reached First before fails = no_basic First (omega arith) fails
   before_number h i j reached (Degree l) before fails = no_basic (Degree l) (omega arith) fails
   before_number h i j reached (Order l) before fails = no_basic (Order l) (omega arith) fails
@@ -91,11 +75,11 @@ module _ (a : Entries) (no_basic : (claim : Claim) → IsBasic claim → CountsF
       passes_number a k l m (reached (P k l m) (fails.0, fails.1, fails.2) (three_indices k l m h i j (within 6 (k ∷ l ∷ m ∷ []) (h ∷ i ∷ j ∷ []) before))) fails
   before_number h i j reached claim before fails = later_test claim (Intersect h i j) (omega arith) before
 
-  size_first : (tests : List Test) (i : ℕ) → IsReached a (K i) → CountsFail a (Size i) → IsFirstFailing a tests (Size i)
-  size_first tests i reached fails = record { runs = inl tt; fails = fails; first = λ earlier before runs. before_size i reached earlier before }
+  size_first : (tests : List Test) (i : ℕ) → IsReached a (K i) → Fails a (Size i) → IsFirstFailing a tests (Size i)
+  size_first tests i reached fails = record { runs = (tt, inl (omega arith)); fails = fails; first = λ earlier before runs. before_size i reached earlier before }
 
-  number_first : (tests : List Test) (h i j : ℕ) → IsReached a (P h i j) → CountsFail a (Intersect h i j) → IsFirstFailing a tests (Intersect h i j)
-  number_first tests h i j reached fails = record { runs = inl tt; fails = fails; first = λ earlier before runs. before_number h i j reached earlier before }
+  number_first : (tests : List Test) (h i j : ℕ) → IsReached a (P h i j) → Fails a (Intersect h i j) → IsFirstFailing a tests (Intersect h i j)
+  number_first tests h i j reached fails = record { runs = (tt, inl (omega arith)); fails = fails; first = λ earlier before runs. before_number h i j reached earlier before }
 
   pub fall_first : (tests : List Test) (claim : Claim) → IsNumbersFault a (Fall claim) → IsFirstFailing a tests claim
   fall_first tests (Size i) fault = size_first tests i fault.reached fault.failed
@@ -103,7 +87,7 @@ module _ (a : Entries) (no_basic : (claim : Claim) → IsBasic claim → CountsF
   fall_first tests claim fault = absurd fault
 
   -- a number that is too wide
-  before_entry : (h i j : ℕ) → IsReached a (P h i j) → (claim : Claim) → test_number (test_of claim) < 6 → CountsFail a claim → ⊥
+  before_entry : (h i j : ℕ) → IsReached a (P h i j) → (claim : Claim) → test_number (test_of claim) < 6 → Fails a claim → ⊥
   before_entry h i j reached First small fails = no_basic First (omega arith) fails
   before_entry h i j reached (Degree l) small fails = no_basic (Degree l) (omega arith) fails
   before_entry h i j reached (Order l) small fails = no_basic (Order l) (omega arith) fails
@@ -111,7 +95,7 @@ module _ (a : Entries) (no_basic : (claim : Claim) → IsBasic claim → CountsF
   before_entry h i j reached (Size l) small fails = passes_size a l (reached (K l) fails.0.1 tt) fails
   before_entry h i j reached claim small fails = absurd (omega (arith, small))
 
-  pub before_wide : (last : Test) (node : Node) → IsNodeOf last node → IsFirstWide a node → (claim : Claim) → IsEarlier (test_of claim) last → CountsFail a claim → ⊥
+  pub before_wide : (last : Test) (node : Node) → IsNodeOf last node → IsFirstWide a node → (claim : Claim) → IsEarlier (test_of claim) last → Fails a claim → ⊥
   before_wide test.Size (K i) part wide claim earlier fails = no_basic claim (omega (arith, earlier)) fails
   before_wide test.Size N part wide claim earlier fails = no_basic claim (omega (arith, earlier)) fails
   before_wide test.Intersect (P h i j) part wide claim earlier fails = before_entry h i j wide.reached claim earlier fails
@@ -119,7 +103,7 @@ module _ (a : Entries) (no_basic : (claim : Claim) → IsBasic claim → CountsF
 
   -- all numbers pass
   module _ (pass : AllPass a) where
-    none_by_numbers : (claim : Claim) → test_number (test_of claim) ≤ 6 → CountsFail a claim → ⊥
+    none_by_numbers : (claim : Claim) → test_number (test_of claim) ≤ 6 → Fails a claim → ⊥
     none_by_numbers First small fails = no_basic First (omega arith) fails
     none_by_numbers (Degree l) small fails = no_basic (Degree l) (omega arith) fails
     none_by_numbers (Order l) small fails = no_basic (Order l) (omega arith) fails
@@ -130,28 +114,31 @@ module _ (a : Entries) (no_basic : (claim : Claim) → IsBasic claim → CountsF
 
     module _ (tests : List Test) where
       -- a failing claim of a test that runs is one of the selected tests of parity
-      parity_of : (claim : Claim) → Runs tests (test_of claim) → CountsFail a claim → IsSelectedParity tests claim
-      parity_of (Handshake i) (inr selected) fails = (omega arith, omega arith, selected)
-      parity_of (Induced i j) (inr selected) fails = (omega arith, omega arith, selected)
-      parity_of (Triangles i) (inr selected) fails = (omega arith, omega arith, selected)
-      parity_of (Handshake i) (inl always) fails = absurd always
-      parity_of (Induced i j) (inl always) fails = absurd always
-      parity_of (Triangles i) (inl always) fails = absurd always
+      parity_of : (claim : Claim) → Runs tests (test_of claim) → Fails a claim → IsSelectedParity tests claim
+      parity_of (Handshake i) (built, inr selected) fails = (omega arith, omega arith, selected)
+      parity_of (Induced i j) (built, inr selected) fails = (omega arith, omega arith, selected)
+      parity_of (Triangles i) (built, inr selected) fails = (omega arith, omega arith, selected)
+      parity_of (Handshake i) (built, inl always) fails = absurd (omega (arith, always))
+      parity_of (Induced i j) (built, inl always) fails = absurd (omega (arith, always))
+      parity_of (Triangles i) (built, inl always) fails = absurd (omega (arith, always))
       parity_of First runs fails = absurd (none_by_numbers First (omega arith) fails)
       parity_of (Degree l) runs fails = absurd (none_by_numbers (Degree l) (omega arith) fails)
       parity_of (Order l) runs fails = absurd (none_by_numbers (Order l) (omega arith) fails)
       parity_of (Cross l m) runs fails = absurd (none_by_numbers (Cross l m) (omega arith) fails)
       parity_of (Size l) runs fails = absurd (none_by_numbers (Size l) (omega arith) fails)
       parity_of (Intersect k l m) runs fails = absurd (none_by_numbers (Intersect k l m) (omega arith) fails)
-      parity_of claim runs fails = absurd fails
+      parity_of claim runs fails = absurd runs.0
+
+      selected_built : (claim : Claim) → IsSelectedParity tests claim → IsBuilt (test_of claim)
+      selected_built claim selected = is_built (test_of claim) selected.1
 
       pub parity_first : (claim : Claim) → IsSelectedParity tests claim → CountsFail a claim
           → ((earlier : Claim) → IsSelectedParity tests earlier → ComesBefore earlier claim → CountsFail a earlier → ⊥) → IsFirstFailing a tests claim
       parity_first claim selected fails first = record {
-        runs = inr selected.2;
-        fails = fails;
-        first = λ earlier before runs failed. first earlier (parity_of earlier runs failed) before failed;
+        runs = (selected_built claim selected, inr selected.2);
+        fails = fails_by_counts a claim fails;
+        first = λ earlier before runs failed. first earlier (parity_of earlier runs failed) before (counts_fail a earlier runs.0 failed);
       }
 
-      pub none_fails : ((claim : Claim) → IsSelectedParity tests claim → CountsFail a claim → ⊥) → (claim : Claim) → Runs tests (test_of claim) → CountsFail a claim → ⊥
-      none_fails no_parity claim runs fails = no_parity claim (parity_of claim runs fails) fails
+      pub none_fails : ((claim : Claim) → IsSelectedParity tests claim → CountsFail a claim → ⊥) → (claim : Claim) → Runs tests (test_of claim) → Fails a claim → ⊥
+      none_fails no_parity claim runs fails = no_parity claim (parity_of claim runs fails) (counts_fail a claim runs.0 fails)

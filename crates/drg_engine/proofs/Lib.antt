@@ -5,7 +5,9 @@ pub mod TakenLines
 pub mod Closings
 pub mod Acceptance
 pub mod Texts
+pub mod BuiltTests
 pub mod TestOrder
 pub mod ClaimFacts
 pub mod Decisions
+pub mod OneReport
 pub mod LineLists

@@ -8,7 +8,7 @@ use Rattle.drg_array.specs.Numbers.{IsIntersectionNumber}
 use Rattle.drg_intersection.specs.FirstNumbers.{FirstNumbers, AreFirstNumbers, HasRow, IsRowOf, cell}
 use Rattle.drg_intersection.specs.Numbers.{place}
 use Rattle.drg_intersection.proofs.Places.{before_row}
-use Rattle.drg_array.specs.Conditions.{CountsFail}
+use Rattle.drg_engine.specs.Conditions.{Fails}
 use Rattle.drg_array.specs.declared.claim.Claim.TheVariants.{Intersect}
 use Rattle.drg_derivation.specs.declared.line.Line.{Line}
 use Rattle.drg_engine.specs.Lines.{AreLinesOf, AreRowLines, IsRowLine}
@@ -40,7 +40,7 @@ pub items_push : (start rows before after : List Line) (line : Line) → before 
 items_push start rows before after line old new = new ∙ (ap (λ ls. ls ++ line ∷ []) old ∙ append_assoc start rows (line ∷ []))
 
 -- row 0 is whole, so the array fails intersect at a later row
-pub after_row_zero : (a : Entries) (h i j : ℕ) → CountsFail a (Intersect h i j) → 1 ≤ i
+pub after_row_zero : (a : Entries) (h i j : ℕ) → Fails a (Intersect h i j) → 1 ≤ i
 after_row_zero a h zero j (low, middle, high, x, (p, are, e), fails) = absurd (fails (bit (j == h), sym e ∙ are.start j high))
 after_row_zero a h (suc i) j fails = omega arith
 

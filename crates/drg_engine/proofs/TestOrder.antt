@@ -1,42 +1,18 @@
 -- The tests in their order: a list of them grows by a later test.
-use Rattle.std.proofs.Common.{◌≡◌, ℕ, zero, suc, ◌+◌, ◌<◌, ◌≤◌, List, [], ◌∷◌, ◌++◌, length, get_or, refl, sym, ap, subst, ◌∙◌, arith, inl, inr}
-use Rattle.std.specs.Prelude.{◌⊎◌, ◌==◌, if◌then◌else◌, ⊤, Contains}
-use Rattle.std.proofs.lemmas.List.Elements.{Contains-append_left, Contains-append_cases, Contains-append_right, Contains-push, Contains-push_cases}
-use Rattle.drg_array.specs.TestLists.{IsSelection, IsAlwaysRun}
-use Rattle.drg_array.specs.ConditionLaws.{IsArrayTest}
+use Rattle.std.proofs.Common.{◌≡◌, ℕ, zero, suc, ◌+◌, ◌-◌, ◌<◌, ◌≤◌, List, [], ◌∷◌, ◌++◌, length, get_or, take, drop, refl, sym, ap, subst, ◌∙◌, arith, inl, inr}
+use Rattle.std.specs.Prelude.{◌⊎◌, ⊤, Contains}
+use Rattle.std.proofs.lemmas.List.{get_or-take, get_or-drop, length-take, length-drop}
+use Rattle.std.proofs.lemmas.List.Elements.{Contains-append_left, Contains-append_right, Contains-push, Contains-push_cases}
+use Rattle.drg_array.specs.ClaimOrder.{test_number}
 use Rattle.drg_array.specs.declared.test.Test.{Test}
 use Rattle.drg_array.specs.declared.test.Test.TheVariants.{First, Degree, Order, Cross, Size, Intersect, Handshake, Induced, Triangles, Mult, Krein, Absolute, Triple, Ktriple}
-use Rattle.drg_array.specs.declared.test_set.TheConstants.{BUILT}
-use Rattle.drg_array.specs.ClaimOrder.{test_number}
-use Rattle.drg_engine.specs.Verdicts.{Runs, IsEarlier, IsAscending, AreTests, RunsBefore}
+use Rattle.drg_array.specs.declared.test.TheConstants.Test.{ALL}
+use Rattle.drg_array.proofs.TestLaws.{one_number}
+use Rattle.drg_engine.specs.Courses.{RunsWithin}
+use Rattle.drg_engine.specs.Selections.{Runs, RunsBefore, IsEarlier, IsAscending, AreTests}
+use Rattle.drg_engine.proofs.BuiltTests.{built_number}
 
--- ---- a test has one number, from 1
-abbrev numbered : List Test → ℕ → Test
-numbered [] n = First
-numbered (t ∷ ts) n = if test_number t == n then t else numbered ts n
-
-abbrev every : List Test
-every = First ∷ Degree ∷ Order ∷ Cross ∷ Size ∷ Intersect ∷ Handshake ∷ Induced ∷ Triangles ∷ Mult ∷ Krein ∷ Absolute ∷ Triple ∷ Ktriple ∷ []
-
-numbered-is : (t : Test) → numbered every (test_number t) ≡ t
-numbered-is First = refl
-numbered-is Degree = refl
-numbered-is Order = refl
-numbered-is Cross = refl
-numbered-is Size = refl
-numbered-is Intersect = refl
-numbered-is Handshake = refl
-numbered-is Induced = refl
-numbered-is Triangles = refl
-numbered-is Mult = refl
-numbered-is Krein = refl
-numbered-is Absolute = refl
-numbered-is Triple = refl
-numbered-is Ktriple = refl
-
-pub one_number : (t u : Test) → test_number t ≡ test_number u → t ≡ u
-one_number t u e = sym (numbered-is t) ∙ (ap (numbered every) e ∙ numbered-is u)
-
+-- ---- the numbers of the tests, from 1
 pub from_one : (t : Test) → 1 ≤ test_number t
 from_one First = omega arith
 from_one Degree = omega arith
@@ -53,10 +29,6 @@ from_one Absolute = omega arith
 from_one Triple = omega arith
 from_one Ktriple = omega arith
 
--- the first nine, in their order
-abbrev pub in_order : List Test
-in_order = First ∷ Degree ∷ Order ∷ Cross ∷ Size ∷ Intersect ∷ Handshake ∷ Induced ∷ Triangles ∷ []
-
 abbrev AreNumbered : ℕ → List Test → Type 0
 AreNumbered n [] = ⊤
 AreNumbered n (t ∷ ts) = (test_number t ≡ suc n) × AreNumbered (suc n) ts
@@ -66,63 +38,35 @@ numbered_at n [] i h are = absurd (omega arith)
 numbered_at n (t ∷ ts) zero h are = omega (arith, are.0)
 numbered_at n (t ∷ ts) (suc i) h are = let next = numbered_at (suc n) ts i (omega arith) are.1 in omega (arith, next)
 
-pub number_at : (i : ℕ) → i < 9 → test_number (get_or in_order i First) ≡ suc i
-number_at i h = let at = numbered_at 0 in_order i h (refl, (refl, (refl, (refl, (refl, (refl, (refl, (refl, (refl, tt))))))))) in omega (arith, at)
+all_numbered : AreNumbered 0 ALL
+all_numbered = (refl, (refl, (refl, (refl, (refl, (refl, (refl, (refl, (refl, (refl, (refl, (refl, (refl, (refl, tt))))))))))))))
 
--- ---- the tests that run are among the first nine
-pub is_array_test : (t : Test) → test_number t ≤ 9 → IsArrayTest t
-is_array_test First h = tt
-is_array_test Degree h = tt
-is_array_test Order h = tt
-is_array_test Cross h = tt
-is_array_test Size h = tt
-is_array_test Intersect h = tt
-is_array_test Handshake h = tt
-is_array_test Induced h = tt
-is_array_test Triangles h = tt
-is_array_test t h = absurd (omega (arith, h))
+pub length_between : (m n : ℕ) → n ≤ 14 → length (take (n - m) (drop m ALL)) ≡ n - m
+length_between m n inside = simp (length-take, length-drop) (omega arith)
 
-always_small : (t : Test) → IsAlwaysRun t → test_number t ≤ 6
-always_small First h = omega arith
-always_small Degree h = omega arith
-always_small Order h = omega arith
-always_small Cross h = omega arith
-always_small Size h = omega arith
-always_small Intersect h = omega arith
-always_small t h = absurd h
+-- the test at a place between m and n of all tests
+pub number_at : (m n i : ℕ) → n ≤ 14 → m + i < n → test_number (get_or (take (n - m) (drop m ALL)) i First) ≡ suc (m + i)
+number_at m n i inside below =
+    let low : i < n - m = omega arith in
+    let at = numbered_at 0 ALL (m + i) (omega (arith, inside, below)) all_numbered in
+    let same = get_or-take (n - m) (drop m ALL) i First low ∙ get_or-drop m ALL i First in
+    ap test_number same ∙ omega (arith, at)
 
--- what a list of one more test contains
-either : (t u : Test) (us : List Test) → Contains (u ∷ us) t → (u ≡ t) ⊎ Contains us t
-either t u us h =
-    elim (Contains-append_cases (u ∷ []) us t h) [
-      | inl one ↦ elim (Contains-push_cases [] u t one) [ inl none ↦ absurd (omega (arith, none.1)) | inr e ↦ inl e ]
-      | inr more ↦ inr more
-    ]
-
-built_small : (t : Test) → Contains BUILT t → test_number t ≤ 9
-built_small t h =
-    elim (either t Handshake (Induced ∷ Triangles ∷ []) h) [
-      | inl e ↦ subst (λ u. test_number u ≤ 9) e (omega arith)
-      | inr more ↦ elim (either t Induced (Triangles ∷ []) more) [
-        | inl e ↦ subst (λ u. test_number u ≤ 9) e (omega arith)
-        | inr last ↦ elim (either t Triangles [] last) [
-          | inl e ↦ subst (λ u. test_number u ≤ 9) e (omega arith)
-          | inr none ↦ absurd (omega (arith, none.1))
-        ]
-      ]
-    ]
-
-selected_small : (tests : List Test) (t : Test) → IsSelection tests → Contains tests t → test_number t ≤ 9
-selected_small [] t selection h = absurd (omega (arith, h.1))
-selected_small (u ∷ us) t selection h =
-    elim (either t u us h) [
-      | inl e ↦ subst (λ v. test_number v ≤ 9) e (built_small u selection.0)
-      | inr more ↦ selected_small us t selection.2 more
-    ]
-
-pub runs_small : (tests : List Test) (t : Test) → IsSelection tests → Runs tests t → test_number t ≤ 9
-runs_small tests t selection (inl always) = let small = always_small t always in omega arith
-runs_small tests t selection (inr selected) = selected_small tests t selection selected
+pub to_fourteen : (t : Test) → test_number t ≤ 14
+to_fourteen First = omega arith
+to_fourteen Degree = omega arith
+to_fourteen Order = omega arith
+to_fourteen Cross = omega arith
+to_fourteen Size = omega arith
+to_fourteen Intersect = omega arith
+to_fourteen Handshake = omega arith
+to_fourteen Induced = omega arith
+to_fourteen Triangles = omega arith
+to_fourteen Mult = omega arith
+to_fourteen Krein = omega arith
+to_fourteen Absolute = omega arith
+to_fourteen Triple = omega arith
+to_fourteen Ktriple = omega arith
 
 -- ---- lists in order
 ascending_push : (ts : List Test) (u : Test) → ((t : Test) → Contains ts t → IsEarlier t u) → IsAscending ts → IsAscending (ts ++ u ∷ [])
@@ -131,10 +75,6 @@ ascending_push (t ∷ ts) u below (first, order) = (
   (λ v h. elim (Contains-push_cases ts u v h) [ inl old ↦ first v old | inr e ↦ subst (λ w. IsEarlier t w) e (below t (0, omega arith, refl)) ]),
   ascending_push ts u (λ v h. below v (Contains-append_right (t ∷ []) ts v h)) order,
 )
-
--- the test runs, and is one of the first n
-abbrev pub RunsWithin : List Test → ℕ → Test → Type 0
-RunsWithin tests n t = Runs tests t × (test_number t ≤ n)
 
 module _ (tests : List Test) where
   pub none_yet : AreTests (RunsWithin tests 0) []
@@ -175,20 +115,15 @@ module _ (tests : List Test) where
           let other : test_number t ≡ test_number u → ⊥ = λ e. never (subst (Runs tests) (one_number t u e) runs) in
           grind (arith, next, top, other)
 
-    pub before_next : AreTests (RunsBefore tests u) ts
-    before_next = record {
-      order = are.order;
-      members = λ t. ((λ h. let at = (are.members t).0 h in (at.0, omega (arith, at.1, next))), (λ h. (are.members t).1 (h.0, omega (arith, h.1, next))));
-    }
-
-  pub before_all : (ts : List Test) (last : Test) → IsSelection tests → AreTests (RunsWithin tests 9) ts → 9 < test_number last → AreTests (RunsBefore tests last) ts
-  before_all ts last selection are late = record {
+  -- each test that runs is one of the first nine
+  pub all_within : (ts : List Test) → AreTests (RunsWithin tests 9) ts → AreTests (Runs tests) ts
+  all_within ts are = record {
     order = are.order;
-    members = λ t. ((λ h. let at = (are.members t).0 h in (at.0, omega (arith, at.1, late))), (λ h. (are.members t).1 (h.0, runs_small tests t selection h.0)));
+    members = λ t. ((λ h. ((are.members t).0 h).0), (λ runs. (are.members t).1 (runs, built_number t runs.0)));
   }
 
-  pub all_of_before : (ts : List Test) (last : Test) → IsSelection tests → AreTests (RunsBefore tests last) ts → 9 < test_number last → AreTests (Runs tests) ts
-  all_of_before ts last selection are late = record {
+  pub all_before : (n : ℕ) (ts : List Test) (last : Test) → test_number last ≡ suc n → AreTests (RunsWithin tests n) ts → AreTests (RunsBefore tests last) ts
+  all_before n ts last next are = record {
     order = are.order;
-    members = λ t. ((λ h. ((are.members t).0 h).0), (λ runs. (are.members t).1 (runs, (let small = runs_small tests t selection runs in omega (arith, small, late)))));
+    members = λ t. ((λ h. let at = (are.members t).0 h in (at.0, omega (arith, at.1, next))), (λ h. (are.members t).1 (h.0, omega (arith, h.1, next))));
   }

@@ -6,7 +6,7 @@ use Rattle.std.proofs.lemmas.Int.{ints, unsigned_abs-mul}
 use Rattle.std.proofs.lemmas.List.{reverse-reverse}
 use Rattle.drg_algebra.proofs.Tests.{both}
 use Rattle.drg_array.specs.Entries.{Entries, IsArray, diameter, c_at}
-use Rattle.drg_array.specs.Conditions.{CountsFail}
+use Rattle.drg_array.specs.Claims.{test_of}
 use Rattle.drg_array.specs.declared.claim.Claim.{Claim}
 use Rattle.drg_array.specs.declared.claim.Claim.TheVariants.{First, Degree, Order, Cross, Size, Intersect, Handshake, Induced, Triangles}
 use Rattle.drg_array.specs.declared.claim.Class.TheVariants.{Counting}
@@ -32,6 +32,7 @@ use Rattle.drg_replay.proofs.Soundness.{above_zero}
 use Rattle.drg_replay.proofs.ProgressLaws.{accepted, all_are_met, array_stays}
 use Rattle.drg_replay.proofs.RootLaws.{root_found}
 use Rattle.drg_replay.proofs.StepLaws.{each_holds, at_most, is_less, is_same, is_whole_same}
+use Rattle.drg_engine.specs.Conditions.{Fails, IsBuilt}
 use Rattle.drg_engine.specs.Laws.{TextLaw}
 use Rattle.drg_engine.proofs.TakenLines.{onto, all_onto}
 use Rattle.drg_engine.proofs.Acceptance.{answer_is}
@@ -131,25 +132,31 @@ all_short a (Frame root ∷ lines) all = ((all.0, tt), all_short a lines all.1)
 all_short a (line ∷ lines) all = absurd all.0
 
 -- ---- the claim
-small : (a : Entries) (claim : Claim) → IsArray a → CountsFail a claim → IsClaim claim
-small a First array fails = tt
-small a (Degree i) array fails = let short = array.short in let h = fails.0.1 in (omega arith, tt)
-small a (Order i) array fails = let short = array.short in let h = fails.1 in (omega arith, tt)
-small a (Cross i j) array fails = let short = array.short in let h = fails.1 in (omega arith, (omega arith, tt))
-small a (Size i) array fails = let short = array.short in let h = fails.0.1 in (omega arith, tt)
-small a (Intersect h i j) array fails =
+small : (a : Entries) (claim : Claim) → IsArray a → IsBuilt (test_of claim) → Fails a claim → IsClaim claim
+small a First array built fails = tt
+small a (Degree i) array built fails = let short = array.short in let h = fails.0.1 in (omega arith, tt)
+small a (Order i) array built fails = let short = array.short in let h = fails.1 in (omega arith, tt)
+small a (Cross i j) array built fails = let short = array.short in let h = fails.1 in (omega arith, (omega arith, tt))
+small a (Size i) array built fails = let short = array.short in let h = fails.0.1 in (omega arith, tt)
+small a (Intersect h i j) array built fails =
     let short = array.short in let hh = fails.0 in let hi = fails.1 in let hj = fails.2 in (omega arith, (omega arith, (omega arith, tt)))
-small a (Handshake i) array fails = let short = array.short in let h = fails.0.1 in (omega arith, tt)
-small a (Induced i j) array fails = let short = array.short in let h = fails.0.1 in let k = fails.1.1 in (omega arith, (omega arith, tt))
-small a (Triangles i) array fails = let short = array.short in let h = fails.0.1 in (omega arith, tt)
-small a claim array fails = absurd fails
+small a (Handshake i) array built fails = let short = array.short in let h = fails.0.1 in (omega arith, tt)
+small a (Induced i j) array built fails = let short = array.short in let h = fails.0.1 in let k = fails.1.1 in (omega arith, (omega arith, tt))
+small a (Triangles i) array built fails = let short = array.short in let h = fails.0.1 in (omega arith, tt)
+small a claim array built fails = absurd built
 
 pub has_text : TextLaw
-has_text derivation array fails made are =
+has_text derivation shows =
     let a = derivation.array in
+    let claim = derivation.claim in
     let lines = reverse derivation.lines in
-    let answer = answer_is a derivation.claim derivation.lines array fails made are in
-    let end = accepted (progress_of a derivation.claim lines) Counting (length lines + 4) answer in
-    let met = (all_are_met a derivation.claim lines end.known end.all_met).0 in
-    let all = all_back (CanStand a) derivation.lines (all_stand a derivation.claim array lines met) in
-    record { array = array; claim = small a derivation.claim array fails; evidence = evidence a (context_of a) derivation.lines refl (omega arith) all; short = all_short a derivation.lines all }
+    let answer = answer_is a claim derivation.lines shows.array shows.built shows.fails shows.made shows.lines in
+    let end = accepted (progress_of a claim lines) Counting (length lines + 4) answer in
+    let met = (all_are_met a claim lines end.known end.all_met).0 in
+    let all = all_back (CanStand a) derivation.lines (all_stand a claim shows.array lines met) in
+    record {
+      array = shows.array;
+      claim = small a claim shows.array shows.built shows.fails;
+      evidence = evidence a (context_of a) derivation.lines refl (omega arith) all;
+      short = all_short a derivation.lines all;
+    }

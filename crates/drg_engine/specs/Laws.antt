@@ -1,55 +1,100 @@
--- Laws of derivations and of verdicts.
-use Rattle.std.specs.Prelude.{◌≡◌, List, Ok}
+-- Laws of conditions, of derivations and of verdicts.
+use Rattle.std.specs.Prelude.{◌≡◌, List, Ok, Contains}
 use Rattle.drg_array.specs.Entries.{Entries, IsArray}
-use Rattle.drg_array.specs.Claims.{test_of}
-use Rattle.drg_array.specs.Conditions.{CountsFail, CountsHold}
+use Rattle.drg_array.specs.Claims.{class_of, test_of}
+use Rattle.drg_array.specs.TestLists.{IsSelection}
 use Rattle.drg_array.specs.declared.test.Test.{Test}
 use Rattle.drg_array.specs.declared.claim.Claim.{Claim}
-use Rattle.drg_array.specs.declared.claim.Class.TheVariants.{Counting}
 use Rattle.drg_array.specs.declared.node.Node.{Node}
 use Rattle.drg_derivation.specs.Content.{Content}
 use Rattle.drg_derivation.specs.Text.{HasText}
 use Rattle.drg_counting.specs.EntryTests.{IsBasic}
 use Rattle.drg_intersection.specs.Faults.{IsFirstWide}
 use Rattle.drg_replay.specs.Answers.{answer_of}
+use Rattle.drg_report.specs.Texts.{report_text}
 use Rattle.drg_report.specs.declared.verdict.Verdict.{Verdict}
 use Rattle.drg_report.specs.declared.verdict.Verdict.TheVariants.{Infeasible, Undecided, Survivor}
+use Rattle.drg_engine.specs.Conditions.{Fails, Holds, IsBuilt}
 use Rattle.drg_engine.specs.Lines.{AreLinesOf}
 use Rattle.drg_engine.specs.Made.{AreMade}
-use Rattle.drg_engine.specs.Verdicts.{Runs, VerdictHolds}
+use Rattle.drg_engine.specs.Selections.{Runs}
+use Rattle.drg_engine.specs.Verdicts.{IsWideEntry, VerdictHolds}
 
--- a derivation with the lines of its claim is accepted, where the array fails the claim and the numbers on which the claim
--- rests are made
+-- a test that is built doesn't hold where a claim of it fails
+abbrev pub FailingTestsDontHold : Type 0
+FailingTestsDontHold =
+    (a : Entries) (claim : Claim) → IsBuilt (test_of claim) → Fails a claim
+    → ¬ Holds a (test_of claim)
+
+-- and it holds where none of its claims fails
+abbrev pub UnfailedTestsHold : Type 0
+UnfailedTestsHold =
+    (a : Entries) (t : Test) → IsBuilt t → ((claim : Claim) → test_of claim ≡ t → Fails a claim → ⊥)
+    → Holds a t
+
+-- each selected test runs
+abbrev pub SelectedTestsRun : Type 0
+SelectedTestsRun =
+    (tests : List Test) (t : Test) → IsSelection tests → Contains tests t → Runs tests t
+
+-- The array fails the claim, a claim of a test that is built; the lines are those of the claim, and
+-- the numbers on which it rests are made.
+pub record ShowsFailure (derivation : Content) : Type 0 where
+  pub array : IsArray derivation.array
+  pub built : IsBuilt (test_of derivation.claim)
+  pub fails : Fails derivation.array derivation.claim
+  pub lines : AreLinesOf derivation.array derivation.claim derivation.lines
+  pub made : AreMade derivation.array derivation.claim
+
+-- such a derivation is accepted, with the class of its claim
 abbrev pub AcceptanceLaw : Type 0
-AcceptanceLaw = (derivation : Content) → IsArray derivation.array → CountsFail derivation.array derivation.claim → AreMade derivation.array derivation.claim
-    → AreLinesOf derivation.array derivation.claim derivation.lines → answer_of derivation ≡ Ok Counting
+AcceptanceLaw =
+    (derivation : Content) → ShowsFailure derivation
+    → answer_of derivation ≡ Ok (class_of derivation.claim)
 
 -- and it has a text
 abbrev pub TextLaw : Type 0
-TextLaw = (derivation : Content) → IsArray derivation.array → CountsFail derivation.array derivation.claim → AreMade derivation.array derivation.claim
-    → AreLinesOf derivation.array derivation.claim derivation.lines → HasText derivation
+TextLaw = (derivation : Content) → ShowsFailure derivation → HasText derivation
 
 -- no number is too wide whose formula is reached
 abbrev pub NoneIsWide : Entries → Type 0
 NoneIsWide a = (node : Node) → IsFirstWide a node → ⊥
 
--- what a verdict says then: infeasible where a test that runs doesn't hold, and a survivor where each holds
+-- what a verdict says then: infeasible where a test that runs doesn't hold, and a survivor where
+-- each holds
 abbrev pub IsDecided : Entries → List Test → Verdict → Type 0
-IsDecided a tests (Infeasible found) = Runs tests (test_of found.claim) × ¬ CountsHold a (test_of found.claim)
+IsDecided a tests (Infeasible found) =
+    Runs tests (test_of found.claim) × ¬ Holds a (test_of found.claim)
 IsDecided a tests (Undecided found) = ⊥
-IsDecided a tests (Survivor found) = (t : Test) → Runs tests t → CountsHold a t
+IsDecided a tests (Survivor found) = (t : Test) → Runs tests t → Holds a t
 
 -- where no number is too wide, a right verdict decides
 abbrev pub CompletenessLaw : Type 0
-CompletenessLaw = (a : Entries) (tests : List Test) (verdict : Verdict) → NoneIsWide a → VerdictHolds a tests verdict → IsDecided a tests verdict
+CompletenessLaw =
+    (a : Entries) (tests : List Test) (verdict : Verdict) → NoneIsWide a
+    → VerdictHolds a tests verdict → IsDecided a tests verdict
 
--- the verdict is that a number is too wide
-abbrev pub IsOpen : Verdict → Type 0
-IsOpen (Infeasible found) = ⊥
-IsOpen (Undecided found) = Unit {0}
-IsOpen (Survivor found) = ⊥
+-- the verdict is that this number is too wide, and nothing else
+abbrev pub IsOpenAt : Node → Verdict → Type 0
+IsOpenAt node (Infeasible found) = ⊥
+IsOpenAt node (Undecided found) = (t : Test) × IsWideEntry t node found.pending
+IsOpenAt node (Survivor found) = ⊥
 
--- where the tests on the entries hold and the first number that fails is too wide, a right verdict says so
+-- where no test on the entries fails and the first number that fails is too wide, a right verdict
+-- says so
 abbrev pub WideLaw : Type 0
-WideLaw = (a : Entries) (tests : List Test) (verdict : Verdict) (node : Node) → ((claim : Claim) → IsBasic claim → CountsFail a claim → ⊥) → IsFirstWide a node
-    → VerdictHolds a tests verdict → IsOpen verdict
+WideLaw =
+    (a : Entries) (tests : List Test) (verdict : Verdict) (node : Node)
+    → ((claim : Claim) → IsBasic claim → Fails a claim → ⊥) → IsFirstWide a node
+    → VerdictHolds a tests verdict → IsOpenAt node verdict
+
+-- What two verdicts on an array share that are right for the same tests: the whole text of their
+-- reports, as nothing in it is free.
+abbrev pub HaveOneReport : Entries → Verdict → Verdict → Type 0
+HaveOneReport a verdict other = report_text a verdict ≡ report_text a other
+
+-- an array has, for each list of tests, one report that is right, up to what is free in it
+abbrev pub OneReportLaw : Type 0
+OneReportLaw =
+    (a : Entries) (tests : List Test) (verdict other : Verdict) → IsArray a
+    → VerdictHolds a tests verdict → VerdictHolds a tests other → HaveOneReport a verdict other

@@ -12,13 +12,17 @@ use Rattle.drg_derivation.specs.declared.line.Line.TheVariants.{K, P}
 
 -- a `k` line with the first m sizes, k_0 to k_(m-1)
 abbrev pub IsSizeLine : Entries → ℕ → Line → Type 0
-IsSizeLine a m (K values) = (length values ≡ m) × ((i : ℕ) → i < m → size a i ≡ whole (slice_index_or values i (pos 0)))
+IsSizeLine a m (K values) =
+    (length values ≡ m)
+    × ((i : ℕ) → i < m → size a i ≡ whole (slice_index_or values i (pos 0)))
 IsSizeLine a m line = ⊥
 
 -- a `p` line with row i of the intersection numbers with upper index h
 abbrev pub IsRowLine : Entries → ℕ → ℕ → Line → Type 0
-IsRowLine a h i (P g l values) = (g ≡ pos h) × (l ≡ pos i) × (length values ≡ suc (diameter a))
-    × ((j : ℕ) → j ≤ diameter a → IsIntersectionNumber a h i j (whole (slice_index_or values j (pos 0))))
+IsRowLine a h i (P g l values) =
+    (g ≡ pos h) × (l ≡ pos i) × (length values ≡ suc (diameter a))
+    × ((j : ℕ) → j ≤ diameter a
+    → IsIntersectionNumber a h i j (whole (slice_index_or values j (pos 0))))
 IsRowLine a h i line = ⊥
 
 -- `p` lines with so many rows of h, from row i on
@@ -31,10 +35,12 @@ AreRowLines a h i (suc m) (line ∷ lines) = IsRowLine a h i line × AreRowLines
 -- a `k` line with all sizes, and then `p` lines with rows 1 to m of h
 abbrev pub AreSizesAndRows : Entries → ℕ → ℕ → List Line → Type 0
 AreSizesAndRows a h m [] = ⊥
-AreSizesAndRows a h m (line ∷ lines) = IsSizeLine a (suc (diameter a)) line × AreRowLines a h 1 m lines
+AreSizesAndRows a h m (line ∷ lines) =
+    IsSizeLine a (suc (diameter a)) line × AreRowLines a h 1 m lines
 
--- The lines of a derivation of the claim: none where the entries show it; the sizes before k_i for size i; rows 1 to i - 1
--- of h for intersect h i j; all sizes for handshake; and also rows 1 to i of h = i for induced i j and triangles i.
+-- The lines of a derivation of the claim: none where the entries show it; the sizes before k_i for
+-- size i; rows 1 to i - 1 of h for intersect h i j; all sizes for handshake; and also rows 1 to i
+-- of h = i for induced i j and triangles i.
 abbrev pub AreLinesOf : Entries → Claim → List Line → Type 0
 AreLinesOf a First lines = lines ≡ []
 AreLinesOf a (Degree i) lines = lines ≡ []

@@ -1,21 +1,24 @@
 //! The verdict on an array.
 
-ghost use Rattle.std.specs.Prelude.{◌≡◌, List, IfOk};
-ghost use Rattle.drg_array.specs.Conditions.{CountsFail};
+ghost use Rattle.std.specs.Prelude.{◌≡◌, List, [], suc, IfOk, OnOk};
+ghost use Rattle.drg_array.specs.Claims.{test_of};
+ghost use Rattle.drg_array.specs.ClaimOrder.{test_number};
 ghost use Rattle.drg_array.specs.Entries.{Entries};
 ghost use Rattle.drg_array.specs.declared.test.Test.{Test as TheTest};
 ghost use Rattle.drg_array.specs.declared.claim.Claim.{Claim as TheClaim};
 ghost use Rattle.drg_counting.specs.EntryTests.{IsBasic};
 ghost use Rattle.drg_intersection.specs.Faults.{AllPass, IsFirstWide, IsNode};
 ghost use Rattle.drg_intersection.specs.Numbers.{AreNumbersOf};
+ghost use Rattle.drg_engine.specs.Conditions.{Fails, IsBuilt};
+ghost use Rattle.drg_engine.specs.Courses.{IsCourse};
 ghost use Rattle.drg_engine.specs.Lines.{AreLinesOf};
 ghost use Rattle.drg_engine.specs.Made.{AreMade};
 ghost use Rattle.drg_engine.specs.Verdicts.{IsFirstFailing, IsNodeOf, VerdictHolds};
 
+use crate::course::Course;
 use crate::lines::lines_of;
-use crate::passed::{all_tests, tests_before};
-use crate::{acceptance_law, text_law};
-use drg_array::{Array, Claim, Node, Test, TestSet, condition_law};
+use crate::{acceptance_law, built_law, text_law};
+use drg_array::{Array, Claim, Node, Test, TestSet};
 use drg_counting::{basic, parity};
 use drg_derivation::{Derivation, Line};
 use drg_graph::counting_claims_law;
@@ -24,21 +27,24 @@ use drg_report::{Cause, Infeasible, Pending, PendingTests, Survivor, Undecided, 
 use std::alloc::{AllocError, Global};
 
 /// The verdict on the array, by the first six tests and those that are selected. They run in their
-/// order, and the first one that fails or can't be decided ends it. The one error is want of memory.
+/// order, and the first one that fails, or that can't be decided, ends it. The one error is want of
+/// memory.
 pub fn judge(alloc: Global, array: &Array, tests: &TestSet) -> Result<Verdict, AllocError>
     ensures { IfOk result (VerdictHolds array.now tests.now) }
 {
+    let mut course = Course::new(alloc);
     if let Some(claim) = basic(array) {
-        return Ok(infeasible_by(alloc, array, claim, Vec::new(alloc)));
+        return Ok(infeasible_by(array, claim, Vec::new(alloc), course.pending));
     }
+    course.pass_up_to(Test::Cross, tests)?;
     match numbers_or_before(alloc, array) {
-        Ok(numbers) => judge_numbers(alloc, array, tests, numbers),
+        Ok(numbers) => judge_numbers(alloc, array, tests, numbers, course),
         Err(shortfall) => match shortfall.fault {
             NumbersFault::Fall { claim } => {
                 let lines = lines_of(alloc, claim, &shortfall.before)?;
-                Ok(infeasible_by(alloc, array, claim, lines))
+                Ok(infeasible_by(array, claim, lines, course.pending))
             }
-            NumbersFault::Wide { node } => undecided_by(alloc, tests, node),
+            NumbersFault::Wide { node } => undecided_by(node, tests, course),
             NumbersFault::Memory => Err(AllocError),
         },
     }
@@ -50,33 +56,44 @@ fn judge_numbers(
     array: &Array,
     tests: &TestSet,
     numbers: Numbers,
+    mut course: Course,
 ) -> Result<Verdict, AllocError>
-    requires entries { (claim : TheClaim) → IsBasic claim → CountsFail array.now claim → ⊥ }
+    requires entries { (claim : TheClaim) → IsBasic claim → Fails array.now claim → ⊥ }
     requires numbers { AreNumbersOf array.now numbers }
     requires pass { AllPass array.now }
+    requires course { IsCourse tests.now course }
+    requires decided { course.decided ≡ 4 }
     ensures { IfOk result (VerdictHolds array.now tests.now) }
 {
+    // For the proof alone: by the contract of `d`, these are the entries of an array.
     let _ = array.d();
-    condition_law();
+    built_law();
+    course.pass_up_to(Test::Intersect, tests)?;
     if let Some(claim) = parity(&numbers, tests) {
         let lines = lines_of(alloc, claim, numbers.first())?;
-        return Ok(infeasible_by(alloc, array, claim, lines));
+        return Ok(infeasible_by(array, claim, lines, course.pending));
     }
-    let passed = all_tests(alloc, tests)?;
+    course.pass_up_to(Test::Triangles, tests)?;
+    let passed = course.passed;
     Ok(Verdict::Survivor(Survivor { passed, numbers }))
 }
 
 /// The verdict on an array of which this is the first failing claim, with the lines that show it.
-fn infeasible_by(alloc: Global, array: &Array, claim: Claim, lines: Vec<Line>) -> Verdict
-    requires fails { CountsFail array.now claim }
+/// No test before it is pending.
+fn infeasible_by(array: &Array, claim: Claim, lines: Vec<Line>, pending: PendingTests) -> Verdict
+    requires built { IsBuilt (test_of claim) }
+    requires fails { Fails array.now claim }
     requires made { AreMade array.now claim }
     requires lines { AreLinesOf array.now claim lines.items }
-    ensures { (tests : List TheTest) → IsFirstFailing array.now tests claim → VerdictHolds array.now tests result }
+    requires none_pending { pending ≡ [] }
+    ensures { (tests : List TheTest) → IsFirstFailing array.now tests claim
+        → VerdictHolds array.now tests result }
 {
+    // For the proof alone: by the contract of `d`, these are the entries of an array.
     let _ = array.d();
     acceptance_law();
     text_law();
-    condition_law();
+    built_law();
     counting_claims_law();
     // By the laws, a derivation of these parts has a text, and is accepted.
     let Some(derivation) = Derivation::make(array.copied(), claim, lines) else {
@@ -86,36 +103,41 @@ fn infeasible_by(alloc: Global, array: &Array, claim: Claim, lines: Vec<Line>) -
         claim,
         class: claim.class(),
         derivation,
-        pending: PendingTests::new(Vec::new(alloc)),
+        pending,
     })
 }
 
 /// The verdict on an array with a number that is too wide, after others that pass.
-fn undecided_by(alloc: Global, tests: &TestSet, node: Node) -> Result<Verdict, AllocError>
+fn undecided_by(node: Node, tests: &TestSet, mut course: Course) -> Result<Verdict, AllocError>
+    requires course { IsCourse tests.now course }
+    requires decided { course.decided ≡ 4 }
     ensures { IfOk result (λ verdict. (a : Entries) →
-        ((claim : TheClaim) → IsBasic claim → CountsFail a claim → ⊥) →
+        ((claim : TheClaim) → IsBasic claim → Fails a claim → ⊥) →
         IsFirstWide a node → VerdictHolds a tests.now verdict) }
 {
-    condition_law();
-    let test = test_of_node(node);
-    let passed = tests_before(alloc, tests, test)?;
-    let mut pending = Vec::new(alloc);
-    pending.push(Pending {
-        test,
-        cause: Cause::Wide(node),
-    })?;
+    built_law();
+    let test = pass_up_to_node(node, tests, &mut course)?;
+    let cause = Cause::Wide(node);
+    course.pending.push(Pending { test, cause })?;
     Ok(Verdict::Undecided(Undecided {
-        passed,
-        pending: PendingTests::new(pending),
+        passed: course.passed,
+        pending: course.pending,
     }))
 }
 
-/// The test of which a size, the number of vertices or an intersection number is a part.
-fn test_of_node(node: Node) -> Test
-    ensures { (a : Entries) → IsNode a node → IsNodeOf result node }
+/// The test of which this number is a part. The tests before it are noted as tests that hold.
+fn pass_up_to_node(node: Node, tests: &TestSet, course: &mut Course) -> Result<Test, AllocError>
+    requires course { IsCourse tests.now course.old }
+    requires decided { course.old.decided ≡ 4 }
+    ensures part { IfOk result (λ test. (a : Entries) → IsNode a node → IsNodeOf test node) }
+    ensures course { OnOk result (IsCourse tests.now course.new) }
+    ensures next { IfOk result (λ test. test_number test ≡ suc course.new.decided) }
 {
     match node {
-        Node::P { .. } => Test::Intersect,
-        _ => Test::Size,
+        Node::P { .. } => {
+            course.pass_up_to(Test::Size, tests)?;
+            Ok(Test::Intersect)
+        }
+        _ => Ok(Test::Size),
     }
 }

@@ -1,18 +1,21 @@
-//! Judges an intersection array: runs the tests in their order, and gives the verdict with the derivation
-//! of the first claim that fails, or with the numbers of an array that passes.
+//! Judges an intersection array: runs the tests in their order, and gives the verdict with the
+//! derivation of the first claim that fails, or with the numbers of an array that passes.
 //!
-//! What it is for a verdict to be right stands in `specs/Verdicts.antt`, which lines a derivation has in
-//! `specs/Lines.antt`, and the laws of both in `specs/Laws.antt`. That such a derivation is accepted by
-//! the replayer is proved, and not looked at when the program runs.
+//! The tests that are built and their conditions stand in `specs/Conditions.antt`, which of them run
+//! in `specs/Selections.antt`, and what it is for a verdict to be right in `specs/Verdicts.antt`.
+//! Which lines a derivation has is said in `specs/Lines.antt`. `specs/Laws.antt` has the laws: a right
+//! verdict decides where no number is too wide and says so where one is, and two right verdicts on an
+//! array have one text. That a derivation with these lines is accepted by the replayer is proved, and
+//! not looked at when the program runs.
 #![tactic(auto)]
 
+mod course;
 mod judging;
 mod laws;
 mod lines;
-mod passed;
 
 pub use judging::judge;
-pub use laws::{acceptance_law, completeness_law, text_law, wide_law};
+pub use laws::{acceptance_law, built_law, completeness_law, one_report_law, text_law, wide_law};
 
 #[cfg(test)]
 mod tests;

@@ -1,11 +1,12 @@
 //! The evidence lines of a claim, from the numbers in hand.
 
 ghost use Rattle.std.specs.Prelude.{◌≡◌, ◌≤◌, ◌-◌, suc, List, [], ◌∷◌, ◌++◌, length, IfOk, OnOk};
-ghost use Rattle.drg_array.specs.Conditions.{CountsFail};
+ghost use Rattle.drg_array.specs.Claims.{test_of};
 ghost use Rattle.drg_array.specs.Entries.{Entries};
 ghost use Rattle.drg_derivation.specs.declared.line.Line.{Line as TheLine};
 ghost use Rattle.drg_intersection.specs.FirstNumbers.{AreFirstNumbers, HasRow, IsFull};
 ghost use Rattle.drg_intersection.specs.Numbers.{place};
+ghost use Rattle.drg_engine.specs.Conditions.{Fails, IsBuilt};
 ghost use Rattle.drg_engine.specs.Lines.{AreLinesOf, AreRowLines, AreSizesAndRows, HasNumbersOf, IsRowLine, IsSizeLine};
 
 use drg_array::Claim;
@@ -15,8 +16,9 @@ use std::alloc::{AllocError, Global};
 
 /// The lines of a derivation of this claim, from numbers that reach as far as it asks.
 pub fn lines_of(alloc: Global, claim: Claim, first: &FirstNumbers) -> Result<Vec<Line>, AllocError>
+    requires built { IsBuilt (test_of claim) }
     requires made { HasNumbersOf first.now claim }
-    ensures { IfOk result (λ lines. (a : Entries) → AreFirstNumbers a first.now → CountsFail a claim →
+    ensures { IfOk result (λ lines. (a : Entries) → AreFirstNumbers a first.now → Fails a claim →
         AreLinesOf a claim lines.items) }
 {
     match claim {

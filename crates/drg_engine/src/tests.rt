@@ -1,141 +1,137 @@
-//! Verdicts by hand.
+//! Reports by hand and from an independent count. The text of a report fixes its verdict.
 use crate::judge;
-use drg_array::{Array, Class, Node, Test, TestSet};
-use drg_report::{Cause, Pending, Verdict};
+use drg_array::{Array, TestSet};
+use drg_report::render;
 use std::test::Fail;
 
-/// The tests that always run.
-const ALWAYS: [Test; 6] = [
-    Test::First,
-    Test::Degree,
-    Test::Order,
-    Test::Cross,
-    Test::Size,
-    Test::Intersect,
-];
-
 #[test]
-fn excludes_with_a_derivation(rt: HostRuntime) -> Result<(), Fail> {
+fn reports(rt: HostRuntime) -> Result<(), Fail> {
     let all = "handshake,induced,triangles";
     let cases = [
-        (
-            "{3,2;2,1}",
-            all,
-            "drg 1\narray 2 3 2 2 1\nclaim first\nend\n",
-        ),
         // a_1 = 3 - 3 - 1.
         (
             "{3,3;1,1}",
             all,
-            "drg 1\narray 2 3 3 1 1\nclaim degree 1\nend\n",
-        ),
-        // c_2 = 2 > 1 = c_3.
-        (
-            "{5,2,1;1,2,1}",
-            all,
-            "drg 1\narray 3 5 2 1 1 2 1\nclaim order 2\nend\n",
-        ),
-        // c_2 = 3 > 2 = b_1.
-        (
-            "{6,2,1;1,3,3}",
-            all,
-            "drg 1\narray 3 6 2 1 1 3 3\nclaim cross 2 1\nend\n",
+            "drg 1\narray 2 3 3 1 1\nclaim degree 1\nend\nverdict infeasible degree 1 counting\n",
         ),
         // k_2 = 5·4/3.
         (
             "{5,4;1,3}",
             "none",
-            "drg 1\narray 2 5 4 1 3\nclaim size 2\nk 1 5\nend\n",
+            "drg 1\narray 2 5 4 1 3\nclaim size 2\nk 1 5\nend\nverdict infeasible size 2 counting\n",
+        ),
+        // k_12 = 5/2.
+        (
+            "{5,1,1,1,1,1,1,1,1,1,1,1;1,1,1,1,1,1,1,1,1,1,1,2}",
+            "none",
+            "drg 1\narray 12 5 1 1 1 1 1 1 1 1 1 1 1 1 1 1 1 1 1 1 1 1 1 1 2\nclaim size 12\n\
+k 1 5 5 5 5 5 5 5 5 5 5 5\nend\nverdict infeasible size 12 counting\n",
         ),
         // p^2_22 = -1.
         (
             "{4,1;1,2}",
             "none",
-            "drg 1\narray 2 4 1 1 2\nclaim intersect 2 2 2\np 2 1 0 2 2\nend\n",
+            "drg 1\narray 2 4 1 1 2\nclaim intersect 2 2 2\np 2 1 0 2 2\nend\n\
+verdict infeasible intersect 2 2 2 counting\n",
+        ),
+        (
+            "{6,2,1,1,1,1,1,1,1,1,1,1;1,1,1,1,1,1,1,1,1,1,1,3}",
+            "none",
+            "drg 1\narray 12 6 2 1 1 1 1 1 1 1 1 1 1 1 1 1 1 1 1 1 1 1 1 1 3\nclaim intersect 2 12 12\n\
+p 2 1 0 1 4 1 0 0 0 0 0 0 0 0 0\np 2 2 1 4 1 5 1 0 0 0 0 0 0 0 0\n\
+p 2 3 0 1 5 0 5 1 0 0 0 0 0 0 0\np 2 4 0 0 1 5 0 5 1 0 0 0 0 0 0\n\
+p 2 5 0 0 0 1 5 0 5 1 0 0 0 0 0\np 2 6 0 0 0 0 1 5 0 5 1 0 0 0 0\n\
+p 2 7 0 0 0 0 0 1 5 0 5 1 0 0 0\np 2 8 0 0 0 0 0 0 1 5 0 5 1 0 0\n\
+p 2 9 0 0 0 0 0 0 0 1 5 0 5 1 0\np 2 10 0 0 0 0 0 0 0 0 1 5 0 5 1\n\
+p 2 11 0 0 0 0 0 0 0 0 0 1 5 2 4\nend\nverdict infeasible intersect 2 12 12 counting\n",
         ),
         // n = 7 and k_1 = 3.
         (
             "{3,1;1,1}",
             all,
-            "drg 1\narray 2 3 1 1 1\nclaim handshake 1\nk 1 3 3\nend\n",
+            "drg 1\narray 2 3 1 1 1\nclaim handshake 1\nk 1 3 3\nend\n\
+verdict infeasible handshake 1 counting\n",
         ),
         // k_2 = 5 and p^2_21 = 1.
         (
             "{5,2,2;1,2,2}",
             all,
-            "drg 1\narray 3 5 2 2 1 2 2\nclaim induced 2 1\nk 1 5 5 5\np 2 1 0 2 1 2\np 2 2 1 1 1 2\nend\n",
+            "drg 1\narray 3 5 2 2 1 2 2\nclaim induced 2 1\nk 1 5 5 5\np 2 1 0 2 1 2\n\
+p 2 2 1 1 1 2\nend\nverdict infeasible induced 2 1 counting\n",
         ),
         // n = 16, k_1 = 5 and p^1_11 = 2: 6 doesn't divide 160.
         (
             "{5,2;1,1}",
             "triangles",
-            "drg 1\narray 2 5 2 1 1\nclaim triangles 1\nk 1 5 10\np 1 1 1 2 2\nend\n",
+            "drg 1\narray 2 5 2 1 1\nclaim triangles 1\nk 1 5 10\np 1 1 1 2 2\nend\n\
+verdict infeasible triangles 1 counting\n",
         ),
-    ];
-    for (array, names, expected) in cases {
-        let array = Array::read(array.as_bytes())?;
-        let tests = TestSet::read(names).expect(&rt, "a list of tests");
-        let mut text = Vec::new(rt.alloc());
-        let verdict = judge(rt.alloc(), &array, &tests)?;
-        match &verdict {
-            Verdict::Infeasible(found) => {
-                found.derivation.write_text(&mut text)?;
-                assert_eq!(rt; found.claim, found.derivation.claim);
-                assert_eq!(rt; found.class, Class::Counting);
-                assert!(rt; found.pending.as_slice().is_empty());
-            }
-            _ => assert!(rt; false, "{expected}"),
-        }
-        assert_eq!(rt; text.as_slice(), expected.as_bytes());
-    }
-    Ok(())
-}
-
-#[test]
-fn passes_a_survivor(rt: HostRuntime) -> Result<(), Fail> {
-    let cases: [(&[u8], &str, &[Test]); 3] = [
-        (b"{3,2;1,1}", "none", &[]),
-        // Not in the order of the tests.
         (
-            b"{3,2;1,1}",
+            "{5,4,4,4,4,4,4,4,4,4,4,2;1,1,1,1,1,1,1,1,1,1,2,2}",
+            "triangles",
+            "drg 1\narray 12 5 4 4 4 4 4 4 4 4 4 4 2 1 1 1 1 1 1 1 1 1 1 2 2\nclaim triangles 8\n\
+k 1 5 20 80 320 1280 5120 20480 81920 327680 1310720 2621440 2621440\n\
+p 8 1 0 0 0 0 0 0 0 1 0 4 0 0 0\np 8 2 0 0 0 0 0 0 1 0 3 0 16 0 0\n\
+p 8 3 0 0 0 0 0 1 0 3 0 12 0 64 0\np 8 4 0 0 0 0 1 0 3 0 12 0 112 64 128\n\
+p 8 5 0 0 0 1 0 3 0 12 0 112 128 512 512\n\
+p 8 6 0 0 1 0 3 0 12 0 112 128 1024 1792 2048\n\
+p 8 7 0 1 0 3 0 12 0 112 128 1024 3584 7936 7680\n\
+p 8 8 1 0 3 0 12 0 112 128 1024 3584 15872 30464 30720\nend\n\
+verdict infeasible triangles 8 counting\n",
+        ),
+        // The tests aren't selected in their order.
+        (
+            "{3,2;1,1}",
             "triangles,handshake",
-            &[Test::Handshake, Test::Triangles],
+            "verdict survivor\narray {3,2;1,1}\n\
+passed first degree order cross size intersect handshake triangles\nn 10\nsizes 1 3 6\n",
         ),
         // It fails triangles, which isn't selected.
-        (b"{4,2;1,1}", "induced", &[Test::Induced]),
+        (
+            "{4,2;1,1}",
+            "induced",
+            "verdict survivor\narray {4,2;1,1}\n\
+passed first degree order cross size intersect induced\nn 13\nsizes 1 4 8\n",
+        ),
+        // The cube of dimension 12.
+        (
+            "{12,11,10,9,8,7,6,5,4,3,2,1;1,2,3,4,5,6,7,8,9,10,11,12}",
+            all,
+            "verdict survivor\narray {12,11,10,9,8,7,6,5,4,3,2,1;1,2,3,4,5,6,7,8,9,10,11,12}\n\
+passed first degree order cross size intersect handshake induced triangles\nn 4096\n\
+sizes 1 12 66 220 495 792 924 792 495 220 66 12 1\n",
+        ),
+        // 4095·4094^9 is below 2^120, 4095·4094^10 above 2^131.
+        (
+            "{4095,4094,4094,4094,4094,4094,4094,4094,4094,4094,4094,4094;1,1,1,1,1,1,1,1,1,1,1,1}",
+            all,
+            "verdict undecided\n\
+array {4095,4094,4094,4094,4094,4094,4094,4094,4094,4094,4094,4094;1,1,1,1,1,1,1,1,1,1,1,1}\n\
+passed first degree order cross\npending size wide k 11\n",
+        ),
+        // k_11 = k_12 = 4095·4094^9·100 is from 2^126 to 2^127.
+        (
+            "{4095,4094,4094,4094,4094,4094,4094,4094,4094,4094,100,1;1,1,1,1,1,1,1,1,1,1,1,1}",
+            all,
+            "verdict undecided\n\
+array {4095,4094,4094,4094,4094,4094,4094,4094,4094,4094,100,1;1,1,1,1,1,1,1,1,1,1,1,1}\n\
+passed first degree order cross\npending size wide n\n",
+        ),
+        // a_10 p^0_(10,10) = 4093·4095·4094^9 is above 2^131.
+        (
+            "{4095,4094,4094,4094,4094,4094,4094,4094,4094,4094,1;1,1,1,1,1,1,1,1,1,1,1}",
+            all,
+            "verdict undecided\n\
+array {4095,4094,4094,4094,4094,4094,4094,4094,4094,4094,1;1,1,1,1,1,1,1,1,1,1,1}\n\
+passed first degree order cross size\npending intersect wide p 0 11 10\n",
+        ),
     ];
-    for (array, names, selected) in cases {
-        let array = Array::read(array)?;
+    for (array, names, report) in cases {
+        let array = Array::read(array.as_bytes())?;
         let tests = TestSet::read(names).expect(&rt, "a list of tests");
         let verdict = judge(rt.alloc(), &array, &tests)?;
-        match &verdict {
-            Verdict::Survivor(found) => {
-                let others = found.passed.as_slice().strip_prefix(ALWAYS.as_slice());
-                assert_eq!(rt; others, Some(selected), "{names}");
-                assert_eq!(rt; found.numbers.d(), 2);
-            }
-            _ => assert!(rt; false, "{names}"),
-        }
-    }
-    Ok(())
-}
-
-#[test]
-fn leaves_a_wide_number_open(rt: HostRuntime) -> Result<(), Fail> {
-    // 4095·4094^9 is below 2^120, 4095·4094^10 above 2^131.
-    let array =
-        b"{4095,4094,4094,4094,4094,4094,4094,4094,4094,4094,4094,4094;1,1,1,1,1,1,1,1,1,1,1,1}";
-    let verdict = judge(rt.alloc(), &Array::read(array)?, &TestSet::all())?;
-    match &verdict {
-        Verdict::Undecided(found) => {
-            let wide = Pending {
-                test: Test::Size,
-                cause: Cause::Wide(Node::K { i: 11 }),
-            };
-            assert_eq!(rt; found.passed.as_slice(), &ALWAYS[..4]);
-            assert_eq!(rt; found.pending.as_slice(), [wide].as_slice());
-        }
-        _ => assert!(rt; false),
+        let text = render(rt.alloc(), &array, &verdict)?;
+        assert_eq!(rt; text.as_slice(), report.as_bytes(), "{report}");
     }
     Ok(())
 }

@@ -9,16 +9,12 @@ use Rattle.drg_report.specs.declared.verdict.Verdict.{Verdict}
 use Rattle.drg_report.specs.declared.verdict.Verdict.TheVariants as verdict
 use Rattle.drg_engine.specs.Laws.{CompletenessLaw, TextLaw}
 use Rattle.drg_engine.specs.Verdicts.{VerdictHolds}
+use Rattle.drg_engine.proofs.Decisions.{shown}
 use Rattle.drg_program.specs.Check.{IsJudged, IsReadable}
 
 readable : (a : Entries) (tests : List Test) (v : Verdict) → TextLaw → OneText → IsArray a → VerdictHolds a tests v → IsReadable v
 readable a tests (verdict.Infeasible found) law one array h =
-    let same = h.derived.same_array in
-    let claimed = h.derived.same_claim in
-    (one (derivation_text found.derivation) found.derivation).1 (
-      law found.derivation (rw same array) (rw (same, claimed) h.claimed.fails) (rw (same, claimed) h.made) (rw (same, claimed) h.derived.lines),
-      refl,
-    )
+    (one (derivation_text found.derivation) found.derivation).1 (law found.derivation (shown a tests found array h), refl)
 readable a tests (verdict.Undecided found) law one array h = tt
 readable a tests (verdict.Survivor found) law one array h = tt
 

@@ -14,4 +14,6 @@ HaveOneKind verdict other = ⊥
 
 -- reports with the same text have verdicts of one kind
 abbrev pub TextTellsKind : Type 0
-TextTellsKind = (a b : Entries) (verdict other : Verdict) → report_text a verdict ≡ report_text b other → HaveOneKind verdict other
+TextTellsKind =
+    (a b : Entries) (verdict other : Verdict) → report_text a verdict ≡ report_text b other
+    → HaveOneKind verdict other

@@ -16,9 +16,14 @@ use Rattle.drg_report.specs.declared.verdict.Verdict.TheVariants.{Infeasible, Un
 abbrev pub verdict_line : Verdict → List ℕ
 verdict_line verdict = codes "verdict " ++ verdict_words verdict ++ codes "\n"
 
+-- the names, with one space before each
+abbrev pub names_text : List Test → List ℕ
+names_text tests = flat_map (λ t. 32 ∷ test_name t) tests
+
 -- the array, and the tests that ran and hold
 abbrev pub array_lines : Entries → List Test → List ℕ
-array_lines a passed = codes "array " ++ array_text a ++ codes "\npassed" ++ flat_map (λ t. 32 ∷ test_name t) passed ++ codes "\n"
+array_lines a passed =
+    codes "array " ++ array_text a ++ codes "\npassed" ++ names_text passed ++ codes "\n"
 
 -- a line for a test that isn't decided
 abbrev pub pending_line : Pending → List ℕ
@@ -35,11 +40,18 @@ sizes_text numbers (suc i) = sizes_text numbers i ++ 32 ∷ decimal (k_at number
 
 -- the number of vertices, and the sizes k_0 to k_d
 abbrev pub numbers_lines : Numbers → List ℕ
-numbers_lines numbers = codes "n " ++ decimal (n_of numbers) ++ codes "\nsizes" ++ sizes_text numbers (suc numbers.d) ++ codes "\n"
+numbers_lines numbers =
+    codes "n " ++ decimal (n_of numbers) ++ codes "\nsizes" ++ sizes_text numbers (suc numbers.d)
+    ++ codes "\n"
 
--- The one text of a report. An infeasible array has its derivation first, so that a reader of derivations can read the
--- report, and then the claim and its class. The others have the array and the tests that ran and hold.
+-- The one text of a report. An infeasible array has its derivation first, so that a reader of
+-- derivations can read the report, and then the claim and its class. The others have the array and
+-- the tests that ran and hold.
 abbrev pub report_text : Entries → Verdict → List ℕ
-report_text a (Infeasible found) = derivation_text found.derivation ++ verdict_line (Infeasible found) ++ pending_lines found.pending
-report_text a (Undecided found) = verdict_line (Undecided found) ++ array_lines a found.passed ++ pending_lines found.pending
-report_text a (Survivor found) = verdict_line (Survivor found) ++ array_lines a found.passed ++ numbers_lines found.numbers
+report_text a (Infeasible found) =
+    derivation_text found.derivation ++ verdict_line (Infeasible found)
+    ++ pending_lines found.pending
+report_text a (Undecided found) =
+    verdict_line (Undecided found) ++ array_lines a found.passed ++ pending_lines found.pending
+report_text a (Survivor found) =
+    verdict_line (Survivor found) ++ array_lines a found.passed ++ numbers_lines found.numbers

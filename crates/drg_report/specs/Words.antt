@@ -1,4 +1,5 @@
--- The words of which a report is made. They stand in the lines of a text, and each by itself in other forms of a report.
+-- The words of which a report is made. They stand in the lines of a text, and each by itself in
+-- other forms of a report.
 use Rattle.std.specs.Prelude.{ℕ, List, ◌++◌, codes}
 use Rattle.drg_array.specs.Claims.{claim_text, class_name, test_name}
 use Rattle.drg_array.specs.Nodes.{node_text}

@@ -1,13 +1,11 @@
 //! The text of a report.
 //!
-//! Each line ends with one line feed, and each number is written in decimal. Tests, entries and sizes
-//! stand in the order in which the verdict has them. The helpers append, and after an error a part of
-//! what they write may be appended.
+//! Each line ends with one line feed, and each number is written in decimal. Tests, entries and
+//! sizes stand in the order in which the verdict has them. The helpers append, and after an error a
+//! part of what they write may be appended.
 
-ghost use Rattle.std.specs.Prelude.{◌≡◌, ◌∷◌, ◌++◌, suc, IfOk, OnOk};
-ghost use Rattle.std.specs.List.{flat_map};
-ghost use Rattle.drg_array.specs.Claims.{test_name};
-ghost use Rattle.drg_report.specs.Texts.{array_lines, numbers_lines, pending_line, pending_lines, report_text, sizes_text, verdict_line};
+ghost use Rattle.std.specs.Prelude.{◌≡◌, ◌++◌, suc, IfOk, OnOk};
+ghost use Rattle.drg_report.specs.Texts.{array_lines, names_text, numbers_lines, pending_line, pending_lines, report_text, sizes_text, verdict_line};
 
 use crate::words::{write_pending_text, write_verdict_words};
 use crate::{Pending, Verdict};
@@ -63,7 +61,7 @@ fn write_array_lines(array: &Array, passed: &[Test], out: &mut Vec<u8>) -> Resul
 
 /// Appends the names of the tests, with one space before each.
 fn write_names(tests: &[Test], out: &mut Vec<u8>) -> Result<(), AllocError>
-    ensures { OnOk result (out.new.items ≡ out.old.items ++ flat_map (λ t. 32 ∷ test_name t) tests.now) }
+    ensures { OnOk result (out.new.items ≡ out.old.items ++ names_text tests.now) }
 {
     'tests: for test in tests {
         out.push(b' ')?;
@@ -104,7 +102,8 @@ fn write_numbers_lines(numbers: &Numbers, out: &mut Vec<u8>) -> Result<(), Alloc
 
 /// Appends the sizes k_0 to k_d, with one space before each.
 fn write_sizes(numbers: &Numbers, out: &mut Vec<u8>) -> Result<(), AllocError>
-    ensures { OnOk result (out.new.items ≡ out.old.items ++ sizes_text numbers.now (suc numbers.now.d)) }
+    ensures { OnOk result (out.new.items
+        ≡ out.old.items ++ sizes_text numbers.now (suc numbers.now.d)) }
 {
     let mut buffer = Buffer::new();
     'sizes: for i in 0..numbers.d() + 1 {

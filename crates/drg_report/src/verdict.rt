@@ -1,10 +1,11 @@
 //! What the tests found in an array.
 
-ghost use Rattle.std.specs.Prelude.{◌≡◌};
+ghost use Rattle.std.specs.Prelude.{◌≡◌, [], ◌∷◌, ◌++◌, OnOk, OnErr};
 
 use drg_array::{Claim, Class, Node, Test};
 use drg_derivation::Derivation;
 use drg_intersection::Numbers;
+use std::alloc::AllocError;
 use std::marker::Model;
 
 /// Why a test can't be decided.
@@ -44,6 +45,15 @@ impl PassedTests {
         PassedTests { items }
     }
 
+    /// Appends a test. After an error the tests are as they were.
+    pub fn push(&mut self, test: Test) -> Result<(), AllocError>
+        ensures ok { OnOk result (self.new ≡ self.old ++ test ∷ []) }
+        ensures err { OnErr result (self.new ≡ self.old) }
+    {
+        self.items.push(test)?;
+        Ok(())
+    }
+
     /// The tests as a slice.
     pub fn as_slice(&self) -> &[Test]
         ensures { result.now ≡ self.now }
@@ -52,7 +62,8 @@ impl PassedTests {
     }
 }
 
-/// The tests that aren't decided, in the order in which they ran. A test can have more than one entry.
+/// The tests that aren't decided, in the order in which they ran. A test can have more than one
+/// entry.
 #[derive(Debug, Drop)]
 pub struct PendingTests {
     items: Vec<Pending>,
@@ -73,6 +84,15 @@ impl PendingTests {
         ensures { result ≡ items.items }
     {
         PendingTests { items }
+    }
+
+    /// Appends an entry. After an error the entries are as they were.
+    pub fn push(&mut self, entry: Pending) -> Result<(), AllocError>
+        ensures ok { OnOk result (self.new ≡ self.old ++ entry ∷ []) }
+        ensures err { OnErr result (self.new ≡ self.old) }
+    {
+        self.items.push(entry)?;
+        Ok(())
     }
 
     /// The entries as a slice.

@@ -1,7 +1,7 @@
 //! The words of which a report is made.
 //!
-//! They stand in the lines of a text, and each by itself in other forms of a report. The helpers append,
-//! and after an error a part of what they write may be appended.
+//! They stand in the lines of a text, and each by itself in other forms of a report. The helpers
+//! append, and after an error a part of what they write may be appended.
 
 ghost use Rattle.std.specs.Prelude.{◌≡◌, ◌++◌, IfOk, OnOk};
 ghost use Rattle.drg_report.specs.Words.{cause_text, claim_words, pending_text, verdict_words as the_verdict_words};
@@ -10,8 +10,8 @@ use crate::{Cause, Pending, Verdict};
 use drg_array::{Claim, Class};
 use std::alloc::{AllocError, Global};
 
-/// What was found of an array in a few words: `survivor`, `undecided`, or `infeasible` with the claim and
-/// its class. The one error is want of memory.
+/// What was found of an array in a few words: `survivor`, `undecided`, or `infeasible` with the
+/// claim and its class. The one error is want of memory.
 pub fn verdict_words(alloc: Global, verdict: &Verdict) -> Result<Vec<u8>, AllocError>
     ensures { IfOk result (λ words. words.items ≡ the_verdict_words verdict.now) }
 {

@@ -1,15 +1,17 @@
 use Rattle.std.proofs.Common.{◌≡◌, [], ◌∷◌, ◌++◌, ap, ◌∙◌}
 use Rattle.drg_report.specs.declared.verdict.Cause.TheVariants.{Wide}
-use Rattle.drg_engine.proofs.ClaimFacts.{before_wide, node_test_small}
+use Rattle.drg_engine.proofs.ClaimFacts.{before_wide}
 use Rattle.drg_engine.proofs.Decisions.{undecided}
+use Rattle.drg_engine.proofs.TestOrder.{all_before}
 use Rattle.drg_engine.proofs.judging.undecided_by.Goals as goal
 
 pub returns : goal.returns
 returns c = λ a no_basic wide.
-    let last = c.test_of_node-test.result in
+    let last = c.in_ok-test.test in
     let node = c.args.node in
-    let part = c.test_of_node-test.ensures a wide.is_node in
-    let entry : c.new.result ≡ record { test = c.test_of_node-test.result; cause = Wide c.args.node } ∷ [] =
-    c.new.ensures ∙ (c.in_ok-push.ensures.items ∙ ap (λ ps. ps ++ record { test = c.test_of_node-test.result; cause = Wide c.args.node } ∷ []) c.new-pending.ensures.items) in
-    undecided c.condition_law.ensures.holds a c.args.tests.now _ last node part wide (node_test_small last node part) entry c.in_ok-passed.ensures.tests
+    let part = c.in_ok-test.ensures.part a wide.is_node in
+    let course = c.in_ok-test.ensures.course in
+    let entry = c.in_ok-push.ensures.ok ∙ ap (λ ps. ps ++ record { test = last; cause = Wide node } ∷ []) course.none_pending in
+    undecided c.built_law.ensures.holds a c.args.tests.now _ last node wide (part, entry)
+    (all_before c.args.tests.now _ c.pass_up_to_node.new.course.passed last c.in_ok-test.ensures.next course.passed)
     (before_wide a no_basic last node part wide)
