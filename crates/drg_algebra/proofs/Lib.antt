@@ -19,3 +19,4 @@ pub mod Steps
 pub mod Parity
 pub mod Whole
 pub mod SmallCases
+pub mod Beginnings

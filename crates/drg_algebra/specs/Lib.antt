@@ -20,3 +20,4 @@ pub mod OrderLaws
 pub mod TableLaws
 pub mod CountLaws
 pub mod Examples
+pub mod Beginnings

@@ -1,11 +1,12 @@
 ghost use Rattle.std.specs.Prelude.{◌≡◌, ◌++◌, OnOk, OnErr, pos, ◌<ℤ◌, IsTrue, ◌↔◌};
+ghost use Rattle.drg_algebra.specs.Beginnings.{BeginsWith};
 ghost use Rattle.drg_algebra.specs.Rational.{plus, times, minus, whole};
 ghost use Rattle.drg_algebra.specs.Ratio.{ratio};
 ghost use Rattle.drg_algebra.specs.Reduced.{numerator, denominator, common};
 ghost use Rattle.drg_algebra.specs.Fields.{invert};
 ghost use Rattle.drg_fraction.specs.Work.{all_fit, sum_work, product_work, product_fits};
 ghost use Rattle.drg_whole.specs.Range.{InRange, Gives};
-ghost use Rattle.drg_fraction.specs.Text.{rational_text, BeginsWith};
+ghost use Rattle.drg_fraction.specs.Text.{rational_text};
 
 use drg_whole::{Whole, Wide};
 use itoa::Buffer;

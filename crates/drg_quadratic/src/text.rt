@@ -1,5 +1,5 @@
 ghost use Rattle.std.specs.Prelude.{◌≡◌, ◌++◌, OnOk, OnErr};
-ghost use Rattle.drg_fraction.specs.Text.{BeginsWith};
+ghost use Rattle.drg_algebra.specs.Beginnings.{BeginsWith};
 ghost use Rattle.drg_quadratic.specs.Quadratic.{value_of, root_of};
 ghost use Rattle.drg_quadratic.specs.Text.{value_text, first_text, second_text, sign_text, root_text};
 

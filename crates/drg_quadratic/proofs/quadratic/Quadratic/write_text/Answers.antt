@@ -1,12 +1,12 @@
 use Rattle.std.proofs.Common.{◌≡◌, ◌++◌, pos, ap, sym, ◌∙◌, subst, append_assoc, arith}
 use Rattle.std.proofs.lemmas.Int.{ints}
-use Rattle.std.proofs.lemmas.Result.{on_ok_weaker, on_err_weaker}
+use Rattle.std.proofs.lemmas.Result.{on_ok_weaker}
 use Rattle.drg_algebra.specs.Reduced.{numerator}
-use Rattle.drg_fraction.specs.Text.{BeginsWith}
+use Rattle.drg_algebra.proofs.Beginnings.{begins_last}
 use Rattle.drg_fraction.proofs.Texts.{not_equal}
 use Rattle.drg_quadratic.specs.Quadratic.{value_of, root_of}
 use Rattle.drg_quadratic.specs.Text.{value_text, first_text, second_text}
-use Rattle.drg_quadratic.proofs.Texts.{begins_after, text_in_two}
+use Rattle.drg_quadratic.proofs.Texts.{text_in_two}
 use Rattle.drg_quadratic.proofs.quadratic.Quadratic.write_text.Goals as goal
 
 pub returns-clause-ok : goal.returns-clause-ok
@@ -26,5 +26,4 @@ returns-clause-err c =
     let root = root_of c.args.self.now in
     let some : ¬ (numerator z.b ≡ pos 0) = λ e. let n : c.num.result ≡ pos 0 = c.num.ensures.value ∙ ap numerator c.b.ensures ∙ e in grind (arith, ints) in
     let text = text_in_two root z (not_equal (numerator z.b) (pos 0) some) in
-    on_err_weaker _ (λ h. subst (λ t. BeginsWith t c.args.out.now.items c.write_second.new.out.items) (sym text)
-    (begins_after (first_text z.a) (second_text root z) _ _ _ c.in_ok-write_first.ensures.ok h)) c.write_second.ensures.err
+    begins_last _ _ (first_text z.a) _ _ c.write_second.ensures.err c.in_ok-write_first.ensures.ok text
