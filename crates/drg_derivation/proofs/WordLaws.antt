@@ -7,7 +7,8 @@ use Rattle.drg_array.specs.declared.test.Test.{Test}
 use Rattle.drg_array.specs.declared.test.Test.TheVariants as test
 use Rattle.drg_derivation.specs.Reading.{after_byte}
 use Rattle.drg_derivation.specs.Words.{word_text, name_text, takes_name}
-use Rattle.drg_derivation.specs.WordReading.{named, word_part, rest_part, tests, test_named, test_at, kind_word, kind_named, other_word, word_of, word_named, word_at, name_at}
+use Rattle.drg_array.specs.declared.test.TheConstants.Test.{ALL}
+use Rattle.drg_derivation.specs.WordReading.{named, word_part, rest_part, test_named, test_at, kind_word, kind_named, other_word, word_of, word_named, word_at, name_at}
 use Rattle.drg_derivation.specs.declared.kind.Kind.{Kind}
 use Rattle.drg_derivation.specs.declared.kind.Kind.TheVariants as kind
 use Rattle.drg_derivation.specs.declared.kind.TheConstants.{KINDS}
@@ -71,7 +72,7 @@ unfolding test_at test_named
 test_at-takes w text name rest takes e =
     let after = bound (after_byte 32 text) _ _ e in
     let t = bound (test_named (word_part after.0)) _ _ after.2 in
-    let is = named-is test_name tests (word_part after.0) t.0 t.1 in
+    let is = named-is test_name ALL (word_part after.0) t.0 t.1 in
     let whole : text ≡ 32 ∷ (test_name t.0 ++ rest_part after.0) = after_byte-is 32 text after.0 after.1 ∙ ap (λ l. 32 ∷ l) (parts after.0 ∙ ap (λ l. l ++ rest_part after.0) is) in
     subst (λ (x : Option Test × List ℕ). TakesName w text x.0 x.1) (same_some _ _ t.2) (record { whole = whole; named = takes })
 

@@ -3,7 +3,7 @@ use Rattle.std.specs.Prelude.{ℕ, ◌==◌, if◌then◌else◌, ℤ, List, [],
 use Rattle.std.specs.Option.{option_map}
 use Rattle.drg_array.specs.Claims.{test_name}
 use Rattle.drg_array.specs.declared.test.Test.{Test}
-use Rattle.drg_array.specs.declared.test.Test.TheVariants as test
+use Rattle.drg_array.specs.declared.test.TheConstants.Test.{ALL}
 use Rattle.drg_derivation.specs.Reading.{◌>>=◌, after_byte, integers_of}
 use Rattle.drg_derivation.specs.Shapes.{form_of}
 use Rattle.drg_derivation.specs.Words.{Written, word_text, takes_name}
@@ -27,13 +27,8 @@ abbrev pub named : {A : Type 0} → (A → List ℕ) → List A → List ℕ →
 named name [] text = None
 named name (x ∷ xs) text = if bytes_eq text (name x) then Some x else named name xs text
 
-abbrev pub tests : List Test
-tests =
-    test.First ∷ test.Degree ∷ test.Order ∷ test.Cross ∷ test.Size ∷ test.Intersect ∷ test.Handshake
-    ∷ test.Induced ∷ test.Triangles ∷ test.Mult ∷ test.Krein ∷ test.Absolute ∷ test.Triple ∷ test.Ktriple ∷ []
-
 unfoldable pub test_named : List ℕ → Option Test
-test_named text = named test_name tests text
+test_named text = named test_name ALL text
 
 abbrev pub kind_word : Kind → List ℕ
 kind_word kind = (form_of kind).word

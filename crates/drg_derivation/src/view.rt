@@ -5,7 +5,7 @@ ghost use Rattle.drg_derivation.specs.Words.{array_numbers, claim_words as claim
 
 use crate::EvidenceView;
 use crate::header::claim_indices;
-use drg_array::{Array, Claim, Test};
+use drg_array::{Array, Claim, ClaimName, Test};
 
 /// A line of a derivation over lent bytes, by what it says.
 #[derive(Debug, Drop)]
@@ -30,7 +30,10 @@ impl LineView<'_> {
         match self {
             LineView::Version { .. } => "drg",
             LineView::Array { .. } => "array",
-            LineView::Claim { claim } => claim_words(claim.test()),
+            LineView::Claim { claim } => {
+                let ClaimName::OfTest(test) = claim.name();
+                claim_words(test)
+            }
             LineView::Evidence { line } => line.kind().name(),
             LineView::End => "end",
         }

@@ -10,24 +10,6 @@ use crate::kind::KINDS;
 use crate::word::{OTHER_WORDS, Word};
 use drg_array::Test;
 
-/// The tests that a claim can name.
-const TESTS: [Test; 14] = [
-    Test::First,
-    Test::Degree,
-    Test::Order,
-    Test::Cross,
-    Test::Size,
-    Test::Intersect,
-    Test::Handshake,
-    Test::Induced,
-    Test::Triangles,
-    Test::Mult,
-    Test::Krein,
-    Test::Absolute,
-    Test::Triple,
-    Test::Ktriple,
-];
-
 /// The bytes before the first space, and those from it on.
 fn split_word(text: &[u8]) -> (&[u8], &[u8])
     ensures word { result.0.now ≡ word_part text.now }
@@ -48,7 +30,7 @@ fn split_word(text: &[u8]) -> (&[u8], &[u8])
 fn test_named(name: &[u8]) -> Option<Test>
     ensures { result ≡ test_named_of name.now }
 {
-    'tests: for test in &TESTS {
+    'tests: for test in &Test::ALL {
         if name == test.name().as_bytes() {
             return Some(*test);
         }

@@ -1,9 +1,9 @@
 //! The text of a derivation.
 
-ghost use Rattle.std.specs.Prelude.{◌≡◌, ◌++◌, ◌∷◌, [], OnOk, OnErr};
-ghost use Rattle.drg_algebra.specs.Beginnings.{BeginsWith};
+ghost use Rattle.std.specs.Prelude.{◌≡◌, ◌++◌, ◌∷◌, [], OnOk, map, pos, drop, take};
 ghost use Rattle.drg_derivation.specs.Integers.{integers_text};
-ghost use Rattle.drg_derivation.specs.Text.{derivation_text, evidence_views, line_text, written_texts};
+ghost use Rattle.drg_derivation.specs.Text.{derivation_text, evidence_views, written_texts};
+ghost use Rattle.drg_derivation.specs.Words.{written, written_text};
 ghost use Rattle.drg_derivation.specs.declared.view.LineView.TheVariants.{Array as ArrayView, Claim as ClaimView, Evidence as EvidenceLine};
 
 use crate::view::array_number;
@@ -16,7 +16,6 @@ impl Derivation {
     /// Appends the text.
     pub fn write_text(&self, out: &mut Vec<u8>) -> Result<(), AllocError>
         ensures ok { OnOk result (out.new.items ≡ out.old.items ++ derivation_text self.now) }
-    ensures err { OnErr result (BeginsWith (derivation_text self.now) out.old.items out.new.items) }
     {
         out.extend_from_slice(b"drg 1\n")?;
         write_array(&self.array, out)?;
@@ -29,8 +28,7 @@ impl Derivation {
 
 /// Appends the line of the array.
 fn write_array(array: &Array, out: &mut Vec<u8>) -> Result<(), AllocError>
-    ensures ok { OnOk result (out.new.items ≡ out.old.items ++ line_text (ArrayView array.now)) }
-    ensures err { OnErr result (BeginsWith (line_text (ArrayView array.now)) out.old.items out.new.items) }
+    ensures { OnOk result (out.new.items ≡ out.old.items ++ (written_text (written (ArrayView array.now)) ++ 10 ∷ [])) }
 {
     out.extend_from_slice(b"array")?;
     'numbers: for i in 0..1 + 2 * array.d() {
@@ -42,8 +40,7 @@ fn write_array(array: &Array, out: &mut Vec<u8>) -> Result<(), AllocError>
 
 /// Appends the line of the claim.
 fn write_claim(claim: &Claim, out: &mut Vec<u8>) -> Result<(), AllocError>
-    ensures ok { OnOk result (out.new.items ≡ out.old.items ++ line_text (ClaimView claim.now)) }
-    ensures err { OnErr result (BeginsWith (line_text (ClaimView claim.now)) out.old.items out.new.items) }
+    ensures { OnOk result (out.new.items ≡ out.old.items ++ (written_text (written (ClaimView claim.now)) ++ 10 ∷ [])) }
 {
     out.extend_from_slice(b"claim ")?;
     claim.write_text(out)?;
@@ -53,8 +50,7 @@ fn write_claim(claim: &Claim, out: &mut Vec<u8>) -> Result<(), AllocError>
 
 /// Appends the evidence lines.
 fn write_lines(lines: &[Line], out: &mut Vec<u8>) -> Result<(), AllocError>
-    ensures ok { OnOk result (out.new.items ≡ out.old.items ++ written_texts (evidence_views lines.now)) }
-    ensures err { OnErr result (BeginsWith (written_texts (evidence_views lines.now)) out.old.items out.new.items) }
+    ensures { OnOk result (out.new.items ≡ out.old.items ++ written_texts (evidence_views lines.now)) }
 {
     'lines: for line in lines {
         write_line(line, out)?;
@@ -64,8 +60,7 @@ fn write_lines(lines: &[Line], out: &mut Vec<u8>) -> Result<(), AllocError>
 
 /// Appends an evidence line.
 fn write_line(line: &Line, out: &mut Vec<u8>) -> Result<(), AllocError>
-    ensures ok { OnOk result (out.new.items ≡ out.old.items ++ line_text (EvidenceLine line.now)) }
-    ensures err { OnErr result (BeginsWith (line_text (EvidenceLine line.now)) out.old.items out.new.items) }
+    ensures { OnOk result (out.new.items ≡ out.old.items ++ (written_text (written (EvidenceLine line.now)) ++ 10 ∷ [])) }
 {
     let parts = line.parts();
     out.extend_from_slice(parts.kind.name().as_bytes())?;
@@ -77,8 +72,7 @@ fn write_line(line: &Line, out: &mut Vec<u8>) -> Result<(), AllocError>
 
 /// Appends the numbers, with one space before each.
 fn write_numbers(numbers: &[i128], out: &mut Vec<u8>) -> Result<(), AllocError>
-    ensures ok { OnOk result (out.new.items ≡ out.old.items ++ integers_text numbers.now) }
-    ensures err { OnErr result (BeginsWith (integers_text numbers.now) out.old.items out.new.items) }
+    ensures { OnOk result (out.new.items ≡ out.old.items ++ integers_text numbers.now) }
 {
     'numbers: for number in numbers {
         write_number(*number, out)?;
@@ -88,8 +82,7 @@ fn write_numbers(numbers: &[i128], out: &mut Vec<u8>) -> Result<(), AllocError>
 
 /// Appends a space and the number.
 fn write_number(number: i128, out: &mut Vec<u8>) -> Result<(), AllocError>
-    ensures ok { OnOk result (out.new.items ≡ out.old.items ++ integers_text (number ∷ [])) }
-    ensures err { OnErr result (BeginsWith (integers_text (number ∷ [])) out.old.items out.new.items) }
+    ensures { OnOk result (out.new.items ≡ out.old.items ++ integers_text (number ∷ [])) }
 {
     out.push(b' ')?;
     out.extend_from_slice(Buffer::new().format(number).as_bytes())
