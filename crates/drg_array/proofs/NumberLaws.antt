@@ -6,7 +6,7 @@ use Rattle.drg_algebra.specs.Sums.{bit}
 use Rattle.drg_algebra.specs.Ring.{one, ◌⊗◌}
 use Rattle.drg_algebra.specs.Integer.{suc_above, above_times, ring2}
 use Rattle.drg_algebra.specs.Rational.{ℚ, whole, plus, times, minus, rationals}
-use Rattle.drg_algebra.specs.Ratio.{ratio, ratio_is, ratio_same, times_ratio}
+use Rattle.drg_algebra.specs.Ratio.{ratio, one_above, ratio_one, ratio_same, times_ratio}
 use Rattle.drg_algebra.specs.Fields.{rational_field}
 use Rattle.drg_algebra.proofs.Tests.{decided, same-number, differ}
 use Rattle.drg_algebra.proofs.Tables.{cancel_left}
@@ -21,10 +21,10 @@ use Rattle.drg_array.proofs.EntryLemmas.{c-positive, c-end}
 share-unit : (n : ℕ) → 1 ≤ n → times (whole (pos n)) (ratio (pos 1) (pos n)) ≡ whole (pos 1)
 share-unit zero positive = absurd (omega (arith, positive))
 share-unit (suc n) positive =
-    ap (λ z. times z (ratio (pos 1) (pos (suc n)))) (sym (ratio_is (pos (suc n)) (pos 1) (record { lt = tt })))
-    ∙ (times_ratio (pos (suc n)) (pos 1) (pos 1) (pos (suc n)) (record { lt = tt }) (suc_above n)
-    ∙ (ratio_same _ _ (pos 1) (pos 1) (above_times (pos 1) (pos (suc n)) (record { lt = tt }) (suc_above n)) (record { lt = tt }) (omega (arith, ints))
-    ∙ ratio_is (pos 1) (pos 1) (record { lt = tt })))
+    ap (λ z. times z (ratio (pos 1) (pos (suc n)))) (sym (ratio_one (pos (suc n))))
+    ∙ (times_ratio (pos (suc n)) (pos 1) (pos 1) (pos (suc n)) one_above (suc_above n)
+    ∙ (ratio_same _ _ (pos 1) (pos 1) (above_times (pos 1) (pos (suc n)) one_above (suc_above n)) one_above (omega (arith, ints))
+    ∙ ratio_one (pos 1)))
 
 pub share-back : (n : ℕ) (x : ℚ) → 1 ≤ n → times (whole (pos n)) (share x n) ≡ x
 share-back n x positive =

@@ -2,14 +2,12 @@
 use Rattle.std.specs.Prelude.{◌≡◌, pos, ◌<ℤ◌}
 use Rattle.std.proofs.Common.{ap, sym, ◌∙◌}
 use mathlib.Core.HLevel.{is_prop→PathP}
-use native.Mathlib.Bridge.{le_prop}
 use native.Mathlib.Nat.{ℕ_set}
 use Rattle.drg_algebra.specs.Rational.{ℚ}
 use Rattle.drg_algebra.specs.Ratio.{ratio}
 use Rattle.drg_algebra.specs.Reduced.{numerator, denominator, numerator_ratio, denominator_ratio, above_prop, common}
 use Rattle.drg_fraction.specs.declared.fraction.Fraction.{Fraction}
-use Rattle.drg_whole.specs.declared.whole.Whole.{Whole}
-use Rattle.drg_whole.specs.Range.{InRange}
+use Rattle.drg_whole.specs.Whole.{one_whole}
 
 unfoldable pub rational_of : Fraction → ℚ
 rational_of f = ratio f.num.value f.den.value
@@ -22,14 +20,11 @@ same_parts x y e = (
   sym (denominator_ratio x.num.value x.den.value x.above x.reduced) ∙ ap denominator e ∙ denominator_ratio y.num.value y.den.value y.above y.reduced,
 )
 
-whole_path : (x y : Whole) → x.value ≡ y.value → x ≡ y
-whole_path x y e i = record { value = e i; in_range = is_prop→PathP (λ j. InRange (e j)) (λ j. le_prop) x.in_range y.in_range i }
-
 pub one_fraction : (x y : Fraction) → rational_of x ≡ rational_of y → x ≡ y
 one_fraction x y e i =
     let p = same_parts x y e in
-    let n = whole_path x.num y.num p.0 in
-    let d = whole_path x.den y.den p.1 in
+    let n = one_whole x.num y.num p.0 in
+    let d = one_whole x.den y.den p.1 in
     record {
       num = n i;
       den = d i;

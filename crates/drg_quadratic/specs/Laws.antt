@@ -6,6 +6,7 @@ use Rattle.drg_algebra.specs.Rational.{ℚ, whole, rationals, rational_numbers}
 use Rattle.drg_algebra.specs.Rational as Rational
 use Rattle.drg_algebra.specs.Fields.{rational_field, rationals_field, invert_is}
 use Rattle.drg_algebra.specs.Fields as Fields
+use Rattle.drg_algebra.specs.Ratio.{one_above}
 use Rattle.drg_algebra.specs.Pairs.{pair_path, product_a, product_b, root_values}
 use Rattle.drg_algebra.specs.Root.{only_zeros}
 use Rattle.drg_algebra.specs.Order.{IsAbove, IsPositive}
@@ -14,6 +15,7 @@ use Rattle.drg_algebra.proofs.Pairs.{pair_laws_hold}
 use Rattle.drg_algebra.proofs.RootValues.{square_of_root}
 use Rattle.drg_algebra.proofs.Quotients.{field_laws_hold}
 use Rattle.drg_algebra.proofs.NumberOrder.{sign_of_whole}
+use Rattle.drg_algebra.proofs.WholeParts.{zero_times}
 use Rattle.drg_algebra.proofs.Order.{rationals_ordered, values_ordered, sign_of_embedded}
 use Rattle.drg_fraction.specs.Field.{IsExactField}
 use Rattle.drg_quadratic.specs.Values.{IsRoot, IsOver, flat_prop, Value, nil, unit, plus, minus, times, invert, norm, rational, square_root}
@@ -55,7 +57,7 @@ times_invert root h z o f =
 
 -- ---- values that are rational
 pub nil_times : (p q : ℚ) → p ≡ whole (pos 0) → Rational.times p q ≡ whole (pos 0)
-nil_times p q e = ap (λ x. Rational.times x q) e ∙ ring2 rationals (λ x y. none ⊗ x) (λ x y. none) refl q q
+nil_times p q e = ap (λ x. Rational.times x q) e ∙ zero_times q
 
 pub minus_nil : (q : ℚ) → q ≡ whole (pos 0) → Rational.minus q ≡ whole (pos 0)
 minus_nil q e = ap Rational.minus e ∙ ring2 rationals (λ x y. neg none) (λ x y. none) refl q q
@@ -128,7 +130,7 @@ is_its_parts (suc n) z o = (pair_laws_hold rational_numbers (whole (pos 0)) (Rat
 -- √root is above nil, and its parts are 0 and 1
 root_positive : (root : ℕ) → 0 < root → IsPositive root (square_root root)
 root_positive zero h = absurd (omega arith)
-root_positive (suc n) h = inl (inr refl, inl ((sign_of_whole (pos 1)).1 (record { lt = tt })), λ q. rational_field.apart (ap (λ (z : Value). z.b) q))
+root_positive (suc n) h = inl (inr refl, inl ((sign_of_whole (pos 1)).1 one_above), λ q. rational_field.apart (ap (λ (z : Value). z.b) q))
 
 first_of_root : (root : ℕ) → 0 < root → (square_root root).a ≡ whole (pos 0)
 first_of_root zero h = refl

@@ -51,14 +51,10 @@ fn sums_and_products(rt: HostRuntime) {
         ),
         (0, -7, Some(-7), Some(7), Some(0)),
     ] {
-        assert_eq!(rt; shown(of(a).plus(of(b))), sum, "{a} + {b}");
-        assert_eq!(rt; shown(of(a).minus(of(b))), difference, "{a} - {b}");
-        assert_eq!(rt; shown(of(a).times(of(b))), product, "{a} * {b}");
-        assert_eq!(rt;
-            shown(Product { left: a, right: b }.value()),
-            product,
-            "{a} * {b}"
-        );
+        assert_eq!(rt; shown(of(a).plus(of(b))), sum);
+        assert_eq!(rt; shown(of(a).minus(of(b))), difference);
+        assert_eq!(rt; shown(of(a).times(of(b))), product);
+        assert_eq!(rt; shown(Product { left: a, right: b }.value()), product);
     }
     assert_eq!(rt; shown(of(5).less_product(of(-2), of(3))), Some(11));
     assert_eq!(rt; shown(of(-MOST).less_product(of(1), of(1))), None);
@@ -114,17 +110,9 @@ fn divisors_and_quotients(rt: HostRuntime) {
         (-MOST, MOST, MOST, Some(MOST)),
         (MOST, 2, 1, None),
     ] {
-        assert_eq!(rt; gcd(of(a).value, of(b).value), divisor, "of {a} and {b}");
-        assert_eq!(rt;
-            of(a).common_divisor(of(b)).value,
-            divisor,
-            "of {a} and {b}"
-        );
-        assert_eq!(rt;
-            shown(of(a).common_multiple(of(b))),
-            multiple,
-            "of {a} and {b}"
-        );
+        assert_eq!(rt; gcd(of(a).value, of(b).value), divisor);
+        assert_eq!(rt; of(a).common_divisor(of(b)).value, divisor);
+        assert_eq!(rt; shown(of(a).common_multiple(of(b))), multiple);
     }
     for (n, d, quotient, rest, floor, ceiling) in [
         (7, 2, 3, 1, 3, 4),
@@ -138,12 +126,12 @@ fn divisors_and_quotients(rt: HostRuntime) {
     ] {
         if d > 0 {
             let (number, by) = (of(n), Whole::new(d));
-            assert_eq!(rt; number.over(by).value, quotient, "{n} / {d}");
-            assert_eq!(rt; number.remainder(by).value, rest, "{n} % {d}");
-            assert_eq!(rt; number.floor_over(by).value, floor, "{n} / {d}");
-            assert_eq!(rt; number.ceiling_over(by).value, ceiling, "{n} / {d}");
-            assert_eq!(rt; by.divides(number), rest == 0, "{d} divides {n}");
-            assert_eq!(rt; number.whole_quotient(by).is_some(), rest == 0, "{n} / {d}");
+            assert_eq!(rt; number.over(by).value, quotient);
+            assert_eq!(rt; number.remainder(by).value, rest);
+            assert_eq!(rt; number.floor_over(by).value, floor);
+            assert_eq!(rt; number.ceiling_over(by).value, ceiling);
+            assert_eq!(rt; by.divides(number), rest == 0);
+            assert_eq!(rt; number.whole_quotient(by).is_some(), rest == 0);
         }
     }
     let by = Whole::new(-2);
@@ -163,11 +151,7 @@ fn residues(rt: HostRuntime) {
         (-1, 65_535, 65_534),
         (-12, 5, 3),
     ] {
-        assert_eq!(rt;
-            Residue::of(number, modulus).value,
-            value,
-            "{number} modulo {modulus}"
-        );
+        assert_eq!(rt; Residue::of(number, modulus).value, value);
     }
     let (three, four) = (Residue::of(-3, 7), Residue::of(-10, 7));
     assert_eq!(rt; three.times(four).value, 2);
