@@ -81,7 +81,8 @@ fn push_rows(
     requires high { i ≤ suc first.now.d }
     requires made { place first.now.d h i 0 ≤ length first.now.table }
     ensures { OnOk result ((a : Entries) → AreFirstNumbers a first.now →
-        (rows : List TheLine) × (lines.new.items ≡ lines.old.items ++ rows) × AreRowLines a h 1 (i - 1) rows) }
+        (rows : List TheLine) × (lines.new.items ≡ lines.old.items ++ rows)
+        × AreRowLines a h 1 (i - 1) rows) }
 {
     'rows: for l in 1..i {
         lines.push(row_line(alloc, first, h, l)?)?;
@@ -94,7 +95,8 @@ fn row_line(alloc: Global, first: &FirstNumbers, h: u8, i: usize) -> Result<Line
     requires h { h ≤ first.now.d }
     requires i { i ≤ first.now.d }
     requires made { HasRow first.now h i }
-    ensures { IfOk result (λ line. (a : Entries) → AreFirstNumbers a first.now → IsRowLine a h i line) }
+    ensures { IfOk result (λ line. (a : Entries) →
+        AreFirstNumbers a first.now → IsRowLine a h i line) }
 {
     let values = Vec::from_slice(alloc, first.row(usize::from(h), i))?;
     Ok(Line::P {

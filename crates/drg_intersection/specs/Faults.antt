@@ -12,14 +12,14 @@ use Rattle.drg_intersection.specs.Fits.{Fits}
 use Rattle.drg_intersection.specs.declared.fault.NumbersFault.{NumbersFault}
 use Rattle.drg_intersection.specs.declared.fault.NumbersFault.TheVariants.{Fall, Wide, Memory}
 
--- the nodes of the numbers of an array
+-- The nodes of the numbers of an array.
 abbrev pub IsNode : Entries → Node → Type 0
 IsNode a (K i) = i ≤ diameter a
 IsNode a N = Unit {0}
 IsNode a (P h i j) = (h ≤ diameter a) × (i ≤ diameter a) × (j ≤ diameter a)
 IsNode a node = ⊥
 
--- their order
+-- The order of these nodes.
 abbrev pub IsBefore : Node → Node → Type 0
 IsBefore (K i) (K j) = i < j
 IsBefore (K i) N = Unit {0}
@@ -28,33 +28,33 @@ IsBefore N (P h i j) = Unit {0}
 IsBefore (P h i j) (P m n l) = (h < m) ⊎ ((h ≡ m) × ((i < n) ⊎ ((i ≡ n) × (j < l))))
 IsBefore earlier node = ⊥
 
--- the number is whole, and no negative intersection number
+-- The number is whole, and isn't a negative intersection number.
 abbrev pub IsRight : Entries → Node → Type 0
 IsRight a (K i) = IsWhole (size a i)
 IsRight a N = IsWhole (vertex_count a)
 IsRight a (P h i j) = (x : ℚ) → IsIntersectionNumber a h i j x → IsNatural x
 IsRight a node = ⊥
 
--- it doesn't fail
+-- The number doesn't fail.
 pub record Passes (a : Entries) (node : Node) : Type 0 where
   pub fits : Fits a node
   pub right : IsRight a node
 
--- no number before it fails
+-- No number before this one fails.
 abbrev pub IsReached : Entries → Node → Type 0
 IsReached a node = (earlier : Node) → IsNode a earlier → IsBefore earlier node → Passes a earlier
 
--- no number fails
+-- No number of the array fails.
 abbrev pub AllPass : Entries → Type 0
 AllPass a = (node : Node) → IsNode a node → Passes a node
 
--- the first number that fails doesn't fit
+-- The number is the first that fails, since its formula doesn't fit.
 pub record IsFirstWide (a : Entries) (node : Node) : Type 0 where
   pub is_node : IsNode a node
   pub reached : IsReached a node
   pub wide : ¬ Fits a node
 
--- the first number that fails fits, and fails the test size or intersect
+-- The number is the first that fails. Its formula fits, and it fails the test size or intersect.
 pub record IsFirstFall (a : Entries) (node : Node) (fails : Type 0) : Type 0 where
   pub is_node : IsNode a node
   pub reached : IsReached a node

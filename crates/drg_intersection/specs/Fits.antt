@@ -13,12 +13,12 @@ use Rattle.drg_whole.specs.Range.{InRange}
 abbrev pub IsInRange : ℚ → Type 0
 IsInRange x = (z : ℤ) × (x ≡ whole z) × InRange z
 
--- the numbers, and the sums that come of adding them to a total from left to right, are in range
+-- The numbers, and the sums that come of adding them to a total from left to right, are in range.
 abbrev pub SumFits : ℚ → List ℚ → Type 0
 SumFits sum [] = Unit {0}
 SumFits sum (x ∷ xs) = IsInRange x × IsInRange (plus sum x) × SumFits (plus sum x) xs
 
--- the products in the formula of row i + 1, at j; an absent one is 0
+-- The products in the formula of row i + 1, at j. An absent one is 0.
 abbrev pub products : Entries → (ℕ → ℕ → ℚ) → ℕ → ℕ → List ℚ
 products a p i j =
     before (λ l. times (whole (pos (b_at a l))) (p i l)) j

@@ -89,9 +89,11 @@ impl Model for Numbers {
 
     ghost Value = { TheNumbers };
 
-    ghost view = { λ t. record { d = t.first.d; sizes = t.first.sizes; vertices = t.n; table = t.first.table } };
+    ghost view = { λ t.
+        record { d = t.first.d; sizes = t.first.sizes; vertices = t.n; table = t.first.table } };
 
-    ghost invariant = { λ t. IsTable (record { d = t.first.d; sizes = t.first.sizes; vertices = t.n; table = t.first.table }) };
+    ghost invariant = { λ t. IsTable
+        (record { d = t.first.d; sizes = t.first.sizes; vertices = t.n; table = t.first.table }) };
 }
 
 impl Numbers {
@@ -115,7 +117,8 @@ impl Numbers {
     /// The sizes k_0 to k_d.
     pub fn sizes(&self) -> &[i128]
         ensures length { length result.now ≡ suc self.now.d }
-        ensures sizes { (i : ℕ) → i ≤ self.now.d → slice_index_or result.now i (pos 0) ≡ pos (k_at self.now i) }
+        ensures sizes { (i : ℕ) → i ≤ self.now.d →
+            slice_index_or result.now i (pos 0) ≡ pos (k_at self.now i) }
     {
         self.first.sizes()
     }
@@ -140,7 +143,8 @@ impl Numbers {
         requires h { h ≤ self.now.d }
         requires i { i ≤ self.now.d }
         ensures length { length result.now ≡ suc self.now.d }
-        ensures row { (j : ℕ) → j ≤ self.now.d → slice_index_or result.now j (pos 0) ≡ pos (p_at self.now h i j) }
+        ensures row { (j : ℕ) → j ≤ self.now.d →
+            slice_index_or result.now j (pos 0) ≡ pos (p_at self.now h i j) }
     {
         self.first.row(h, i)
     }
@@ -187,7 +191,8 @@ pub fn numbers_or_before(alloc: Global, array: &Array) -> Result<Numbers, Shortf
     ensures size { IfOk result (λ numbers. CountsHold array.now test.Size) }
     ensures intersect { IfOk result (λ numbers. CountsHold array.now test.Intersect) }
     ensures fault { IfErr result (λ shortfall. IsNumbersFault array.now shortfall.fault) }
-    ensures before { IfErr result (λ shortfall. AreBefore array.now shortfall.fault shortfall.before) }
+    ensures before { IfErr result (λ shortfall.
+        AreBefore array.now shortfall.fault shortfall.before) }
 {
     let d = array.d();
     let mut sizes = Vec::new(alloc);

@@ -78,7 +78,8 @@ pub fn fill_sizes(array: &Array, sizes: &mut Vec<i128>) -> Result<(), NumbersFau
     ensures all { OnOk result (length sizes.new.items ≡ suc (diameter array.now)) }
     ensures reached { OnOk result (IsReached array.now N) }
     ensures fault { IfErr result (IsNumbersFault array.now) }
-    ensures end { IfErr result (λ fault. IfSome (failing_node fault) (λ node. node ≡ K (length sizes.new.items))) }
+    ensures end { IfErr result (λ fault.
+        IfSome (failing_node fault) (λ node. node ≡ K (length sizes.new.items))) }
 {
     sizes.reserve(array.d() + 1)?;
     'sizes: for i in 0..array.d() + 1 {

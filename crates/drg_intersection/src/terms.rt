@@ -128,7 +128,8 @@ fn term_same(array: &Array, p: &[i128], h: usize, i: usize, j: usize) -> Product
     requires h { h ≤ diameter array.now }
     requires i { i ≤ diameter array.now }
     requires j { j ≤ diameter array.now }
-    ensures { result ≡ of_factors (neg_ℤ (a_at array.now i)) (the_cell (diameter array.now) p.now h i j) }
+    ensures { result ≡
+        of_factors (neg_ℤ (a_at array.now i)) (the_cell (diameter array.now) p.now h i j) }
 {
     Product {
         left: -i128::from(array.a(i)),
