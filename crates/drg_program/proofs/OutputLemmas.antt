@@ -7,10 +7,10 @@ use Rattle.drg_program.specs.Input.{HasCauses, IsWithinLimit}
 use Rattle.drg_program.specs.Run.{Ends, Finds}
 use Rattle.drg_program.specs.declared.command.Command.{Command}
 use Rattle.drg_program.specs.declared.output.Output.{Output}
-use Rattle.drg_program.specs.declared.output.Refusal.{Refusal}
-use Rattle.drg_program.specs.declared.output.Refusal.TheVariants.{BadInput, TooLong, OpenFault, ReadFault, Memory}
+use Rattle.drg_program.specs.declared.output.EarlyRefusal.{EarlyRefusal}
+use Rattle.drg_program.specs.declared.output.EarlyRefusal.TheVariants.{BadInput, TooLong, OpenFault, ReadFault, Memory}
 
-pub ends : (command : Command) (bytes : List ℕ) (result : Result Output Refusal) → IsWithinLimit bytes → Finds command bytes result → Ends command bytes result
+pub ends : (command : Command) (bytes : List ℕ) (result : Result Output EarlyRefusal) → IsWithinLimit bytes → Finds command bytes result → Ends command bytes result
 ends command bytes (Ok output) short found = (short, found)
 ends command bytes (Err (BadInput line at)) short found = (short, found)
 ends command bytes (Err TooLong) short found = absurd found
@@ -18,7 +18,7 @@ ends command bytes (Err OpenFault) short found = absurd found
 ends command bytes (Err ReadFault) short found = absurd found
 ends command bytes (Err Memory) short found = tt
 
-no_open_fault : (command : Command) (bytes : List ℕ) (result : Result Output Refusal) → Finds command bytes result → IsErrOf result OpenFault → ⊥
+no_open_fault : (command : Command) (bytes : List ℕ) (result : Result Output EarlyRefusal) → Finds command bytes result → IsErrOf result OpenFault → ⊥
 no_open_fault command bytes (Ok output) found e = cc
 no_open_fault command bytes (Err (BadInput line at)) found e = cc
 no_open_fault command bytes (Err TooLong) found e = found
@@ -26,7 +26,7 @@ no_open_fault command bytes (Err OpenFault) found e = found
 no_open_fault command bytes (Err ReadFault) found e = found
 no_open_fault command bytes (Err Memory) found e = cc
 
-no_read_fault : (command : Command) (bytes : List ℕ) (result : Result Output Refusal) → Finds command bytes result → IsErrOf result ReadFault → ⊥
+no_read_fault : (command : Command) (bytes : List ℕ) (result : Result Output EarlyRefusal) → Finds command bytes result → IsErrOf result ReadFault → ⊥
 no_read_fault command bytes (Ok output) found e = cc
 no_read_fault command bytes (Err (BadInput line at)) found e = cc
 no_read_fault command bytes (Err TooLong) found e = found
@@ -34,12 +34,12 @@ no_read_fault command bytes (Err OpenFault) found e = found
 no_read_fault command bytes (Err ReadFault) found e = found
 no_read_fault command bytes (Err Memory) found e = cc
 
-not_refused : (input : Vec ℕ Global) → IsErrOf {T = Vec ℕ Global} {E = Refusal} (Ok input) OpenFault ⊎ IsErrOf {T = Vec ℕ Global} {E = Refusal} (Ok input) Memory → ⊥
+not_refused : (input : Vec ℕ Global) → IsErrOf {T = Vec ℕ Global} {E = EarlyRefusal} (Ok input) OpenFault ⊎ IsErrOf {T = Vec ℕ Global} {E = EarlyRefusal} (Ok input) Memory → ⊥
 not_refused input (inl e) = cc
 not_refused input (inr e) = cc
 
 -- the causes of what was read are those of what was made of it
-pub causes : (command : Command) (bytes : List ℕ) (result : Result Output Refusal) (file : Option (List ℕ)) (files : Option (List File))
+pub causes : (command : Command) (bytes : List ℕ) (result : Result Output EarlyRefusal) (file : Option (List ℕ)) (files : Option (List File))
     (open_before open_now read_before read_now : ℕ) (input : Vec ℕ Global) → Finds command bytes result
     → HasCauses file files open_before open_now read_before read_now (Ok input) → HasCauses file files open_before open_now read_before read_now result
 causes command bytes result file files open_before open_now read_before read_now input found h = record {

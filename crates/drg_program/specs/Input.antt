@@ -3,8 +3,8 @@ use Rattle.std.specs.Prelude.{◌≡◌, ℕ, ◌<◌, ◌≤◌, ◌⊎◌, Lis
 use Rattle.std.specs.declared.alloc.Global.{Global}
 use Rattle.drg_outside.specs.Causes.{Rose}
 use Rattle.drg_outside.specs.Files.{File, IsMissing, content_of}
-use Rattle.drg_program.specs.declared.output.Refusal.{Refusal}
-use Rattle.drg_program.specs.declared.output.Refusal.TheVariants.{BadInput, TooLong, OpenFault, ReadFault, Memory}
+use Rattle.drg_program.specs.declared.output.EarlyRefusal.{EarlyRefusal}
+use Rattle.drg_program.specs.declared.output.EarlyRefusal.TheVariants.{BadInput, TooLong, OpenFault, ReadFault, Memory}
 
 -- the most bytes that an input may have: 64 MiB
 abbrev pub input_limit : ℕ
@@ -41,7 +41,7 @@ IsFileMissing files None = ⊥
 IsFileMissing files (Some name) = IsMissing files name
 
 -- what reading the whole file gives: its bytes within the limit, or why not
-abbrev pub ReadsAll : List ℕ → Result (Vec ℕ Global) Refusal → Type 0
+abbrev pub ReadsAll : List ℕ → Result (Vec ℕ Global) EarlyRefusal → Type 0
 ReadsAll bytes (Ok input) = (input.items ≡ bytes) × IsWithinLimit bytes
 ReadsAll bytes (Err (BadInput line at)) = ⊥
 ReadsAll bytes (Err TooLong) = IsTooLong bytes
@@ -49,7 +49,8 @@ ReadsAll bytes (Err refusal) = ⊤
 
 -- Each fault has its cause, and no count of faults falls. A told file that isn't there can't be opened, unless want of memory
 -- comes first.
-pub record HasCauses {T : Type 0} (file : Option (List ℕ)) (files : Option (List File)) (open_before open_now read_before read_now : ℕ) (result : Result T Refusal) : Type 0 where
+pub record HasCauses {T : Type 0} (file : Option (List ℕ)) (files : Option (List File))
+    (open_before open_now read_before read_now : ℕ) (result : Result T EarlyRefusal) : Type 0 where
   pub open_fault : IsErrOf result OpenFault → Rose open_before open_now ⊎ IsFileMissing files file
   pub missing : IsFileMissing files file → IsErrOf result OpenFault ⊎ IsErrOf result Memory
   pub read_fault : IsErrOf result ReadFault → Rose read_before read_now

@@ -12,8 +12,8 @@ use Rattle.drg_program.specs.Words.{file_of}
 use Rattle.drg_program.specs.declared.command.Command.{Command}
 use Rattle.drg_program.specs.declared.command.Command.TheVariants.{Check, Replay}
 use Rattle.drg_program.specs.declared.output.Output.{Output}
-use Rattle.drg_program.specs.declared.output.Refusal.{Refusal}
-use Rattle.drg_program.specs.declared.output.Refusal.TheVariants as refusal
+use Rattle.drg_program.specs.declared.output.EarlyRefusal.{EarlyRefusal}
+use Rattle.drg_program.specs.declared.output.EarlyRefusal.TheVariants as refusal
 use Rattle.drg_program.specs.declared.status.Status.{Status}
 use Rattle.drg_program.specs.declared.status.Status.TheVariants.{Survivor, Infeasible, Undecided, Accepted, Rejected, Usage, BadInput, TooLong, OpenFault, ReadFault, WriteFault, Memory}
 
@@ -43,7 +43,7 @@ IsAnswerOf Undecided (Replay file) = ⊤
 IsAnswerOf status command = ⊥
 
 -- what a command makes of all bytes of its input: the status and the text, or the first fault in them
-abbrev pub Finds : Command → List ℕ → Result Output Refusal → Type 0
+abbrev pub Finds : Command → List ℕ → Result Output EarlyRefusal → Type 0
 Finds command bytes (Ok output) = IsOutput command bytes output.status output.text.items
 Finds command bytes (Err (refusal.BadInput line at)) = IsBadAt command bytes line at
 Finds command bytes (Err refusal.Memory) = ⊤
@@ -54,7 +54,7 @@ abbrev pub ReadsFile : Command → Type 0
 ReadsFile command = IsSome (file_of command)
 
 -- what a refusal says of the command and of the bytes of its input
-abbrev pub IsRefused : Command → List ℕ → Refusal → Type 0
+abbrev pub IsRefused : Command → List ℕ → EarlyRefusal → Type 0
 IsRefused command bytes (refusal.BadInput line at) = IsWithinLimit bytes × IsBadAt command bytes line at
 IsRefused command bytes refusal.TooLong = IsTooLong bytes
 IsRefused command bytes refusal.OpenFault = ReadsFile command
@@ -62,7 +62,7 @@ IsRefused command bytes refusal.ReadFault = ReadsFile command
 IsRefused command bytes refusal.Memory = ⊤
 
 -- how a command ends: with the status and the text, or with a refusal
-abbrev pub Ends : Command → List ℕ → Result Output Refusal → Type 0
+abbrev pub Ends : Command → List ℕ → Result Output EarlyRefusal → Type 0
 Ends command bytes (Ok output) = IsWithinLimit bytes × IsOutput command bytes output.status output.text.items
 Ends command bytes (Err refusal) = IsRefused command bytes refusal
 

@@ -8,7 +8,7 @@ ghost use Rattle.drg_program.specs.declared.command.Command.TheVariants.{Check};
 use crate::Status;
 use crate::command::FileName;
 use crate::input::read_input;
-use crate::output::{Output, Refusal};
+use crate::output::{EarlyRefusal, Output};
 use drg_array::{Array, TestSet};
 use drg_derivation::one_text_law;
 use drg_engine::{completeness_law, judge, text_law};
@@ -22,7 +22,7 @@ pub fn check<I: Inputs>(
     inputs: &mut I,
     file: &FileName<'_>,
     tests: &TestSet,
-) -> Result<Output, Refusal>
+) -> Result<Output, EarlyRefusal>
     ensures output { (bytes : List ℕ) × AreBytesOf (I.files inputs.old) file.now bytes
         × Ends (Check tests.now file.now) bytes result }
     ensures causes { HasCauses (Some file.now) (I.files inputs.old)
@@ -35,13 +35,13 @@ pub fn check<I: Inputs>(
 }
 
 /// Judges the one array that stands in these bytes.
-fn check_text(alloc: Global, bytes: &[u8], tests: &TestSet) -> Result<Output, Refusal>
+fn check_text(alloc: Global, bytes: &[u8], tests: &TestSet) -> Result<Output, EarlyRefusal>
     ensures { (file : List ℕ) → Finds (Check tests.now file) bytes.now result }
 {
     let array = match Array::read(without_end(bytes)) {
         Ok(array) => array,
         Err(fault) => {
-            return Err(Refusal::BadInput {
+            return Err(EarlyRefusal::BadInput {
                 line: 1,
                 at: fault.at,
             });

@@ -30,7 +30,7 @@ use check::check;
 pub use command::words_law;
 use command::{Command, command_of};
 use drg_outside::{Inputs, Sink, write_all};
-use output::{Output, Refusal};
+use output::{EarlyRefusal, Output};
 use replay::replay_file;
 pub use status::Status;
 use std::alloc::Global;
@@ -128,11 +128,11 @@ fn carry_out<I: Inputs, K: Sink>(
 {
     let output = match output_of(alloc, command, inputs) {
         Ok(output) => output,
-        Err(Refusal::BadInput { line, at }) => return Status::BadInput { line, at },
-        Err(Refusal::TooLong) => return Status::TooLong,
-        Err(Refusal::OpenFault) => return Status::OpenFault,
-        Err(Refusal::ReadFault) => return Status::ReadFault,
-        Err(Refusal::Memory) => return Status::Memory,
+        Err(EarlyRefusal::BadInput { line, at }) => return Status::BadInput { line, at },
+        Err(EarlyRefusal::TooLong) => return Status::TooLong,
+        Err(EarlyRefusal::OpenFault) => return Status::OpenFault,
+        Err(EarlyRefusal::ReadFault) => return Status::ReadFault,
+        Err(EarlyRefusal::Memory) => return Status::Memory,
     };
     match write_all(sink, &output.text) {
         Ok(()) => output.status,
@@ -145,7 +145,7 @@ fn output_of<I: Inputs>(
     alloc: Global,
     command: &Command<'_>,
     inputs: &mut I,
-) -> Result<Output, Refusal>
+) -> Result<Output, EarlyRefusal>
     ensures output { (bytes : List ℕ)
         × AreInputOf (I.files inputs.old) (file_of command.now) bytes
         × Ends command.now bytes result }

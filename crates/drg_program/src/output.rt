@@ -1,5 +1,5 @@
 ghost use Rattle.std.specs.Prelude.{◌≡◌};
-ghost use Rattle.drg_program.specs.declared.output.Refusal.TheVariants.{Memory};
+ghost use Rattle.drg_program.specs.declared.output.EarlyRefusal.TheVariants.{Memory};
 
 use crate::Status;
 use std::alloc::AllocError;
@@ -13,7 +13,7 @@ pub struct Output {
 
 /// Why a command ended before its text stood.
 #[derive(Clone, Copy, Debug, PartialEq, Eq)]
-pub enum Refusal {
+pub enum EarlyRefusal {
     /// The input isn't in the grammar. Line and place are counted from 1; place 0 is the whole line.
     BadInput { line: u64, at: u64 },
     /// The input has more than [`crate::INPUT_LIMIT`] bytes.
@@ -26,10 +26,10 @@ pub enum Refusal {
     Memory,
 }
 
-impl From<AllocError> for Refusal {
+impl From<AllocError> for EarlyRefusal {
     ghost from_gives = { λ _ refusal. refusal ≡ Memory };
 
-    fn from(_error: AllocError) -> Refusal {
-        Refusal::Memory
+    fn from(_error: AllocError) -> EarlyRefusal {
+        EarlyRefusal::Memory
     }
 }

@@ -8,7 +8,7 @@ use crate::Status;
 use crate::answer_text::{write_accepted, write_open, write_rejected, write_wide};
 use crate::command::FileName;
 use crate::input::read_input;
-use crate::output::{Output, Refusal};
+use crate::output::{EarlyRefusal, Output};
 use drg_array::{Claim, Class};
 use drg_derivation::{Derivation, DerivationFault, read, refusal_law};
 use drg_outside::Inputs;
@@ -20,7 +20,7 @@ pub fn replay_file<I: Inputs>(
     alloc: Global,
     inputs: &mut I,
     file: &FileName<'_>,
-) -> Result<Output, Refusal>
+) -> Result<Output, EarlyRefusal>
     ensures output { (bytes : List ℕ) × AreBytesOf (I.files inputs.old) file.now bytes
         × Ends (Replay file.now) bytes result }
     ensures causes { HasCauses (Some file.now) (I.files inputs.old)
@@ -33,14 +33,17 @@ pub fn replay_file<I: Inputs>(
 }
 
 /// Answers the derivation at the front of these bytes.
-fn replay_text(alloc: Global, bytes: &[u8]) -> Result<Output, Refusal>
+fn replay_text(alloc: Global, bytes: &[u8]) -> Result<Output, EarlyRefusal>
     ensures { (file : List ℕ) → Finds (Replay file) bytes.now result }
 {
     refusal_law();
     let (derivation, _) = match read(alloc, bytes) {
         Ok(found) => found,
-        Err(DerivationFault::BadText { line }) => return Err(Refusal::BadInput { line, at: 0 }),
-        Err(DerivationFault::Memory) => return Err(Refusal::Memory),
+        Err(DerivationFault::BadText { line }) => return Err(EarlyRefusal::BadInput {
+            line,
+            at: 0,
+        }),
+        Err(DerivationFault::Memory) => return Err(EarlyRefusal::Memory),
     };
     let output = conclude(alloc, &derivation)?;
     Ok(output)
