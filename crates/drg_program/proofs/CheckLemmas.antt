@@ -1,5 +1,5 @@
 -- A right verdict can be read again, and says what is decided.
-use Rattle.std.proofs.Common.{List, Result, Ok, Err, refl, sym, subst}
+use Rattle.std.proofs.Common.{List, Result, Ok, Err, refl}
 use Rattle.std.specs.Prelude.{IfOk}
 use Rattle.drg_array.specs.Entries.{Entries, IsArray}
 use Rattle.drg_array.specs.declared.test.Test.{Test}

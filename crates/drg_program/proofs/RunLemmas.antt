@@ -17,7 +17,7 @@ use Rattle.drg_program.specs.Statuses.{IsEarly, IsRefusal}
 use Rattle.drg_program.specs.declared.command.Command.{Command}
 use Rattle.drg_program.specs.declared.command.Command.TheVariants.{Check, Replay}
 use Rattle.drg_program.specs.declared.status.Status.{Status}
-use Rattle.drg_program.specs.declared.status.Status.TheVariants.{Accepted, Rejected, Undecided, Usage, BadInput, TooLong, OpenFault, ReadFault, WriteFault, Memory}
+use Rattle.drg_program.specs.declared.status.Status.TheVariants.{Usage, BadInput, TooLong, OpenFault, ReadFault, WriteFault, Memory}
 
 judged : (v : Verdict) (tests : List Test) (file : List ℕ) → IsAnswerOf (status_of v) (Check tests file)
 judged (verdict.Infeasible found) tests file = tt

@@ -1,4 +1,4 @@
-use Rattle.std.proofs.Common.{ℕ, List, ◌∙◌, subst}
+use Rattle.std.proofs.Common.{ℕ, List, subst}
 use Rattle.std.specs.Io.KnownBytes.{Appends}
 use Rattle.drg_outside.specs.Whole.{AppendsPart}
 use Rattle.drg_program.proofs.RunLemmas.{not_early, whole}
