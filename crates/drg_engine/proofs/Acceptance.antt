@@ -18,7 +18,7 @@ use Rattle.drg_replay.specs.Steps.{EachHolds}
 use Rattle.drg_replay.specs.Claims.{claim_is_met, is_distance, closing_of, intersect_closing, handshake_closing, induced_closing, triangles_closing}
 use Rattle.drg_replay.specs.Lines.{known_at_start}
 use Rattle.drg_replay.specs.Answers.{answer_after}
-use Rattle.drg_array.specs.Claims.{class_of, test_of}
+use Rattle.drg_array.specs.Claims.{test_of}
 use Rattle.drg_engine.specs.Conditions.{Fails, IsBuilt}
 use Rattle.drg_engine.specs.Laws.{AcceptanceLaw}
 use Rattle.drg_engine.proofs.BuiltTests.{counting_claim}

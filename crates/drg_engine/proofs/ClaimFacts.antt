@@ -1,5 +1,5 @@
 -- Which claims an array doesn't fail, where no claim on its entries fails and some of its numbers pass.
-use Rattle.std.proofs.Common.{◌≡◌, ℕ, ◌<◌, ◌≤◌, List, [], ◌∷◌, refl, arith, inl, inr}
+use Rattle.std.proofs.Common.{ℕ, ◌<◌, ◌≤◌, List, [], ◌∷◌, arith, inl, inr}
 use Rattle.drg_array.specs.Entries.{Entries}
 use Rattle.drg_array.specs.Claims.{test_of}
 use Rattle.drg_array.specs.Conditions.{CountsFail}

@@ -1,14 +1,12 @@
 -- Evidence lines, and lines one after the other.
 use Rattle.std.proofs.Common.{◌≡◌, ℕ, zero, suc, ◌+◌, ◌-◌, ◌≤◌, List, [], ◌∷◌, ◌++◌, length, append_assoc, sym, subst, ap, ◌∙◌, arith}
 use Rattle.std.specs.Prelude.{ℤ, pos, slice_index_or, ◌==◌}
-use Rattle.drg_algebra.specs.Sums.{bit}
 use Rattle.drg_algebra.specs.Rational.{whole}
 use Rattle.drg_array.specs.Entries.{Entries, diameter}
 use Rattle.drg_array.specs.Numbers.{IsIntersectionNumber}
 use Rattle.drg_intersection.specs.FirstNumbers.{FirstNumbers, AreFirstNumbers, HasRow, IsRowOf, cell}
 use Rattle.drg_intersection.specs.Numbers.{place}
 use Rattle.drg_intersection.proofs.Places.{before_row}
-use Rattle.drg_engine.specs.Conditions.{Fails}
 use Rattle.drg_array.specs.declared.claim.Claim.TheVariants.{Intersect}
 use Rattle.drg_derivation.specs.declared.line.Line.{Line}
 use Rattle.drg_engine.specs.Lines.{AreLinesOf, AreRowLines, IsRowLine}
@@ -38,11 +36,6 @@ rows_push a h i (suc m) (first ∷ lines) line are next = (are.0, rows_push a h 
 
 pub items_push : (start rows before after : List Line) (line : Line) → before ≡ start ++ rows → after ≡ before ++ line ∷ [] → after ≡ start ++ (rows ++ line ∷ [])
 items_push start rows before after line old new = new ∙ (ap (λ ls. ls ++ line ∷ []) old ∙ append_assoc start rows (line ∷ []))
-
--- row 0 is whole, so the array fails intersect at a later row
-pub after_row_zero : (a : Entries) (h i j : ℕ) → Fails a (Intersect h i j) → 1 ≤ i
-after_row_zero a h zero j (low, middle, high, x, (p, are, e), fails) = absurd (fails (bit (j == h), sym e ∙ are.start j high))
-after_row_zero a h (suc i) j fails = omega arith
 
 pub lines_of_intersect : (a : Entries) (h i j : ℕ) (lines : List Line) → 1 ≤ i → AreRowLines a h 1 (i - 1) lines → AreLinesOf a (Intersect h i j) lines
 lines_of_intersect a h zero j lines later rows = absurd (omega arith)

@@ -1,6 +1,6 @@
 -- Two right verdicts on one array, for the same tests, have one text.
-use Rattle.std.proofs.Common.{◌≡◌, ℕ, zero, suc, ◌+◌, ◌<◌, ◌≤◌, List, [], ◌∷◌, ◌++◌, length, get_or, refl, sym, ap, ap₂, ◌∙◌, subst, arith, inl, inr}
-use Rattle.std.specs.Prelude.{ℤ, pos, ◌⊎◌, ◌↔◌, Contains, map, codes, decimal, slice_index_or}
+use Rattle.std.proofs.Common.{◌≡◌, ℕ, zero, suc, ◌+◌, ◌<◌, ◌≤◌, List, [], ◌∷◌, ◌++◌, refl, sym, ap, ap₂, ◌∙◌, subst, arith, inl, inr}
+use Rattle.std.specs.Prelude.{pos, ◌↔◌, Contains, codes, decimal}
 use Rattle.std.proofs.lemmas.List.{ext_get_or}
 use Rattle.std.proofs.lemmas.List.Elements.{Contains-append_right}
 use Rattle.drg_algebra.specs.Rational.{whole}
@@ -8,7 +8,6 @@ use Rattle.drg_array.specs.ClaimOrder.{test_number}
 use Rattle.drg_array.specs.CatalogueLaws.{ClaimsInOrder}
 use Rattle.drg_array.specs.Claims.{class_of, test_of}
 use Rattle.drg_array.specs.Entries.{Entries, IsArray, diameter}
-use Rattle.drg_array.specs.Numbers.{size}
 use Rattle.drg_array.specs.declared.claim.Claim.{Claim}
 use Rattle.drg_array.specs.declared.claim.Claim.TheVariants.{First, Degree, Order, Cross, Size, Intersect, Handshake, Induced, Triangles}
 use Rattle.drg_array.specs.declared.claim.Class.{Class}
@@ -23,7 +22,7 @@ use Rattle.drg_derivation.specs.declared.line.Line.TheVariants.{K, P}
 use Rattle.drg_intersection.specs.Laws.{OneFault, NoFaultWhereAllPass}
 use Rattle.drg_intersection.specs.Numbers.{AreNumbersOf, Numbers, k_at, n_of}
 use Rattle.drg_intersection.proofs.Ranges.{one_whole}
-use Rattle.drg_report.specs.Texts.{array_lines, numbers_lines, pending_lines, report_text, sizes_text, verdict_line}
+use Rattle.drg_report.specs.Texts.{array_lines, numbers_lines, report_text, sizes_text, verdict_line}
 use Rattle.drg_report.specs.declared.verdict.Cause.TheVariants.{Wide}
 use Rattle.drg_report.specs.declared.verdict.Pending.{Pending}
 use Rattle.drg_report.specs.declared.verdict.Infeasible.{Infeasible}
@@ -32,7 +31,7 @@ use Rattle.drg_report.specs.declared.verdict.Survivor.{Survivor}
 use Rattle.drg_report.specs.declared.verdict.Verdict.{Verdict}
 use Rattle.drg_report.specs.declared.verdict.Verdict.TheVariants as verdict
 use Rattle.drg_engine.specs.Conditions.{Fails, IsBuilt}
-use Rattle.drg_engine.specs.Laws.{FailingTestsDontHold, HaveOneReport, OneReportLaw}
+use Rattle.drg_engine.specs.Laws.{FailingTestsDontHold, HaveOneReport}
 use Rattle.drg_engine.specs.Lines.{AreLinesOf, AreRowLines, AreSizesAndRows, IsRowLine, IsSizeLine}
 use Rattle.drg_engine.specs.Selections.{AreTests, IsAscending, IsEarlier, Runs, RunsBefore}
 use Rattle.drg_engine.specs.Verdicts.{IsFirstFailing, IsInfeasible, IsNodeOf, IsSurvivor, IsUndecided, VerdictHolds}

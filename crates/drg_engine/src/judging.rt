@@ -65,8 +65,7 @@ fn judge_numbers(
     requires decided { course.decided ≡ 4 }
     ensures { IfOk result (VerdictHolds array.now tests.now) }
 {
-    // For the proof alone: by the contract of `d`, these are the entries of an array.
-    let _ = array.d();
+    array.known_valid();
     built_law();
     course.pass_up_to(Test::Intersect, tests)?;
     if let Some(claim) = parity(&numbers, tests) {
@@ -89,8 +88,7 @@ fn infeasible_by(array: &Array, claim: Claim, lines: Vec<Line>, pending: Pending
     ensures { (tests : List TheTest) → IsFirstFailing array.now tests claim
         → VerdictHolds array.now tests result }
 {
-    // For the proof alone: by the contract of `d`, these are the entries of an array.
-    let _ = array.d();
+    array.known_valid();
     acceptance_law();
     text_law();
     built_law();

@@ -41,7 +41,8 @@ pub fn wide_law()
     fault_law();
 }
 
-/// Two right verdicts on an array, for the same tests, have one report: nothing in its text is free.
+/// Two right verdicts on an array, for the same tests, have one report: nothing in its text is
+/// free.
 pub fn one_report_law()
     ensures { OneReportLaw }
 {

@@ -1,12 +1,12 @@
 //! Judges an intersection array: runs the tests in their order, and gives the verdict with the
 //! derivation of the first claim that fails, or with the numbers of an array that passes.
 //!
-//! The tests that are built and their conditions stand in `specs/Conditions.antt`, which of them run
-//! in `specs/Selections.antt`, and what it is for a verdict to be right in `specs/Verdicts.antt`.
-//! Which lines a derivation has is said in `specs/Lines.antt`. `specs/Laws.antt` has the laws: a right
-//! verdict decides where no number is too wide and says so where one is, and two right verdicts on an
-//! array have one text. That a derivation with these lines is accepted by the replayer is proved, and
-//! not looked at when the program runs.
+//! The tests that are built and their conditions stand in `specs/Conditions.antt`, which of them
+//! run in `specs/Selections.antt`, and what it is for a verdict to be right in
+//! `specs/Verdicts.antt`. Which lines a derivation has is said in `specs/Lines.antt`.
+//! `specs/Laws.antt` has the laws: a right verdict decides where no number is too wide and says so
+//! where one is, and two right verdicts on an array have one text. That a derivation with these
+//! lines is accepted by the replayer is proved, and not looked at when the program runs.
 #![tactic(auto)]
 
 mod course;

@@ -6,7 +6,7 @@ ghost use Rattle.drg_array.specs.Entries.{Entries};
 ghost use Rattle.drg_derivation.specs.declared.line.Line.{Line as TheLine};
 ghost use Rattle.drg_intersection.specs.FirstNumbers.{AreFirstNumbers, HasRow, IsFull};
 ghost use Rattle.drg_intersection.specs.Numbers.{place};
-ghost use Rattle.drg_engine.specs.Conditions.{Fails, IsBuilt};
+ghost use Rattle.drg_engine.specs.Conditions.{IsBuilt};
 ghost use Rattle.drg_engine.specs.Lines.{AreLinesOf, AreRowLines, AreSizesAndRows, HasNumbersOf, IsRowLine, IsSizeLine};
 
 use drg_array::Claim;
@@ -18,7 +18,7 @@ use std::alloc::{AllocError, Global};
 pub fn lines_of(alloc: Global, claim: Claim, first: &FirstNumbers) -> Result<Vec<Line>, AllocError>
     requires built { IsBuilt (test_of claim) }
     requires made { HasNumbersOf first.now claim }
-    ensures { IfOk result (λ lines. (a : Entries) → AreFirstNumbers a first.now → Fails a claim →
+    ensures { IfOk result (λ lines. (a : Entries) → AreFirstNumbers a first.now →
         AreLinesOf a claim lines.items) }
 {
     match claim {
@@ -95,8 +95,8 @@ fn row_line(alloc: Global, first: &FirstNumbers, h: u8, i: usize) -> Result<Line
     requires h { h ≤ first.now.d }
     requires i { i ≤ first.now.d }
     requires made { HasRow first.now h i }
-    ensures { IfOk result (λ line. (a : Entries) →
-        AreFirstNumbers a first.now → IsRowLine a h i line) }
+    ensures { IfOk result (λ line. (a : Entries) → AreFirstNumbers a first.now →
+        IsRowLine a h i line) }
 {
     let values = Vec::from_slice(alloc, first.row(usize::from(h), i))?;
     Ok(Line::P {

@@ -2,7 +2,7 @@
 use Rattle.std.specs.Prelude.{ℕ, List, ◌++◌, codes, decimal}
 use Rattle.drg_array.specs.declared.claim.Claim.{Claim}
 use Rattle.drg_array.specs.declared.claim.Class.{Class}
-use Rattle.drg_report.specs.Words.{claim_words}
+use Rattle.drg_report.specs.Words.{claim_with_class}
 
 -- these words, the number of a line, and a line end
 abbrev pub number_line : List ℕ → ℕ → List ℕ
@@ -10,7 +10,7 @@ number_line words number = words ++ decimal number ++ codes "\n"
 
 -- the derivation is accepted, with its claim and its class
 abbrev pub accepted_text : Claim → Class → List ℕ
-accepted_text claim class = codes "accepted " ++ claim_words claim class ++ codes "\n"
+accepted_text claim class = codes "accepted " ++ claim_with_class claim class ++ codes "\n"
 
 -- a line isn't met
 abbrev pub rejected_text : ℕ → List ℕ

@@ -4,7 +4,7 @@ ghost use Rattle.std.specs.Prelude.{◌≡◌, ◌++◌, OnOk};
 ghost use Rattle.drg_program.specs.AnswerText.{accepted_text, number_line, open_text, rejected_text, wide_text};
 
 use drg_array::{Claim, Class};
-use drg_report::write_claim_words;
+use drg_report::write_claim_with_class;
 use itoa::Buffer;
 use std::alloc::AllocError;
 
@@ -13,7 +13,7 @@ pub fn write_accepted(claim: Claim, class: Class, out: &mut Vec<u8>) -> Result<(
     ensures { OnOk result (out.new.items ≡ out.old.items ++ accepted_text claim class) }
 {
     out.extend_from_slice(b"accepted ")?;
-    write_claim_words(claim, class, out)?;
+    write_claim_with_class(claim, class, out)?;
     out.extend_from_slice(b"\n")
 }
 

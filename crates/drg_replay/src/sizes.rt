@@ -36,7 +36,11 @@ fn check_sizes_from(array: &Array, i: usize, last: i128, values: &[i128]) -> Res
 }
 
 /// Whether a `k` line with these numbers is met.
-pub fn check_sizes(array: &Array, sizes: &Option<NumberList>, values: &[i128]) -> Result<(), Refusal>
+pub fn check_sizes(
+    array: &Array,
+    sizes: &Option<NumberList>,
+    values: &[i128],
+) -> Result<(), Refusal>
     ensures { result ≡ first_failure (size_steps array.now sizes.now values.now) }
 {
     let Some((first, rest)) = values.split_first() else {

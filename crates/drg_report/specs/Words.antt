@@ -12,12 +12,12 @@ use Rattle.drg_report.specs.declared.verdict.Verdict.{Verdict}
 use Rattle.drg_report.specs.declared.verdict.Verdict.TheVariants.{Infeasible, Undecided, Survivor}
 
 -- a claim and its class
-abbrev pub claim_words : Claim → Class → List ℕ
-claim_words claim class = claim_text claim ++ codes " " ++ class_name class
+abbrev pub claim_with_class : Claim → Class → List ℕ
+claim_with_class claim class = claim_text claim ++ codes " " ++ class_name class
 
 -- what a verdict says in a few words
 abbrev pub verdict_words : Verdict → List ℕ
-verdict_words (Infeasible found) = codes "infeasible " ++ claim_words found.claim found.class
+verdict_words (Infeasible found) = codes "infeasible " ++ claim_with_class found.claim found.class
 verdict_words (Undecided found) = codes "undecided"
 verdict_words (Survivor found) = codes "survivor"
 

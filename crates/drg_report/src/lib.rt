@@ -2,10 +2,10 @@
 //!
 //! A [`Verdict`] says what the tests that ran found: a failing claim with its derivation, numbers
 //! that are too wide to be computed, or a survivor with its numbers. [`render`] gives the text of
-//! its report, [`verdict_words`] what it says in a few words, and [`write_claim_words`] those of a
-//! claim, which stand in other answers too. The words are defined in `specs/Words.antt`, the texts
-//! in `specs/Texts.antt`, and `specs/Laws.antt` says what a text tells of its verdict. Whether a
-//! verdict is right isn't said here.
+//! its report, [`verdict_words`] what it says in a few words, and [`write_claim_with_class`] those
+//! of a claim, which stand in other answers too. The words are defined in `specs/Words.antt`, the
+//! texts in `specs/Texts.antt`, and `specs/Laws.antt` says what a text tells of its verdict.
+//! Whether a verdict is right isn't said here.
 #![tactic(auto)]
 
 mod laws;
@@ -18,7 +18,7 @@ pub use report::render;
 pub use verdict::{
     Cause, Infeasible, PassedTests, Pending, PendingTests, Survivor, Undecided, Verdict,
 };
-pub use words::{verdict_words, write_claim_words};
+pub use words::{verdict_words, write_claim_with_class};
 
 #[cfg(test)]
 mod tests;

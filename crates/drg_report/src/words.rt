@@ -4,7 +4,7 @@
 //! append, and after an error a part of what they write may be appended.
 
 ghost use Rattle.std.specs.Prelude.{◌≡◌, ◌++◌, IfOk, OnOk};
-ghost use Rattle.drg_report.specs.Words.{cause_text, claim_words, pending_text, verdict_words as the_verdict_words};
+ghost use Rattle.drg_report.specs.Words.{cause_text, claim_with_class, pending_text, verdict_words as the_verdict_words};
 
 use crate::{Cause, Pending, Verdict};
 use drg_array::{Claim, Class};
@@ -27,7 +27,7 @@ pub(crate) fn write_verdict_words(verdict: &Verdict, out: &mut Vec<u8>) -> Resul
     match verdict {
         Verdict::Infeasible(found) => {
             out.extend_from_slice(b"infeasible ")?;
-            write_claim_words(found.claim, found.class, out)
+            write_claim_with_class(found.claim, found.class, out)
         }
         Verdict::Undecided(_) => out.extend_from_slice(b"undecided"),
         Verdict::Survivor(_) => out.extend_from_slice(b"survivor"),
@@ -36,8 +36,12 @@ pub(crate) fn write_verdict_words(verdict: &Verdict, out: &mut Vec<u8>) -> Resul
 
 /// Appends the claim and its class, with one space between them. After an error a part of it may be
 /// appended.
-pub fn write_claim_words(claim: Claim, class: Class, out: &mut Vec<u8>) -> Result<(), AllocError>
-    ensures { OnOk result (out.new.items ≡ out.old.items ++ claim_words claim class) }
+pub fn write_claim_with_class(
+    claim: Claim,
+    class: Class,
+    out: &mut Vec<u8>,
+) -> Result<(), AllocError>
+    ensures { OnOk result (out.new.items ≡ out.old.items ++ claim_with_class claim class) }
 {
     claim.write_text(out)?;
     out.extend_from_slice(b" ")?;

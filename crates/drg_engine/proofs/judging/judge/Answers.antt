@@ -1,11 +1,5 @@
 use Rattle.std.proofs.Common.{subst}
-use Rattle.std.proofs.lemmas.Result.{IfOk-weaker}
-use Rattle.drg_array.specs.Entries.{Entries}
-use Rattle.drg_array.specs.declared.claim.Claim.{Claim}
-use Rattle.drg_counting.specs.EntryTests.{IsBasic}
-use Rattle.drg_intersection.specs.Faults.{IsNumbersFault, IsFirstWide}
-use Rattle.drg_engine.specs.Conditions.{Fails}
-use Rattle.drg_engine.specs.Verdicts.{VerdictHolds}
+use Rattle.drg_intersection.specs.Faults.{IsNumbersFault}
 use Rattle.drg_engine.proofs.ClaimFacts.{basic_first, fall_first, none_basic}
 use Rattle.drg_engine.proofs.judging.judge.Goals as goal
 
@@ -19,18 +13,3 @@ pub returns-in-Some : goal.returns-in-Some
 returns-in-Some c =
     let says = c.in-Some.ensures in
     c.infeasible_by.ensures c.args.tests.now (basic_first c.args.array.now c.args.tests.now c.in-Some.claim says.basic says.fails says.first)
-
-pub returns-in_ok-lines-in-Err-Fall : goal.returns-in_ok-lines-in-Err-Fall
-returns-in_ok-lines-in-Err-Fall c =
-    let a = c.args.array.now in
-    let fault = subst (IsNumbersFault a) c.in-Err-Fall.field-0-is c.in-Err-Fall.ensures.fault in
-    c.infeasible_by-in-Err-Fall.ensures c.args.tests.now (fall_first a (none_basic a c.in_default.ensures.none) c.args.tests.now c.in-Err-Fall.claim fault)
-
-pub returns-in-Err-Wide : goal.returns-in-Err-Wide
-returns-in-Err-Wide c =
-    let a = c.args.array.now in
-    let node = c.in-Err-Wide.node in
-    let fault = subst (IsNumbersFault a) c.in-Err-Wide.field-0-is c.in-Err-Wide.ensures.fault in
-    IfOk-weaker c.undecided_by.result
-    (λ verdict. (e : Entries) → ((claim : Claim) → IsBasic claim → Fails e claim → ⊥) → IsFirstWide e node → VerdictHolds e c.args.tests.now verdict)
-    (VerdictHolds a c.args.tests.now) (λ verdict right. right a (none_basic a c.in_default.ensures.none) fault) c.undecided_by.ensures

@@ -1,4 +1,4 @@
-use Rattle.std.proofs.Common.{◌≡◌, [], ◌∷◌, ◌++◌, ap, ◌∙◌}
+use Rattle.std.proofs.Common.{[], ◌∷◌, ◌++◌, ap, ◌∙◌}
 use Rattle.drg_report.specs.declared.verdict.Cause.TheVariants.{Wide}
 use Rattle.drg_engine.proofs.ClaimFacts.{before_wide}
 use Rattle.drg_engine.proofs.Decisions.{undecided}

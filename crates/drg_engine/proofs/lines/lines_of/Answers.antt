@@ -1,6 +1,5 @@
 use Rattle.std.proofs.Common.{◌-◌, subst, sym}
 use Rattle.std.proofs.lemmas.Result.{IfOk-weaker}
-use Rattle.drg_engine.specs.Conditions.{Fails}
 use Rattle.drg_array.specs.Entries.{Entries}
 use Rattle.drg_intersection.specs.FirstNumbers.{AreFirstNumbers}
 use Rattle.drg_engine.specs.Lines.{AreLinesOf, AreRowLines, HasNumbersOf}
@@ -13,7 +12,7 @@ returns-in-Intersect c =
     let at = c.in-Intersect in
     let made = subst (HasNumbersOf c.args.first.now) at.is c.requires.made in
     IfOk-weaker c.row_lines.result (λ lines. (a : Entries) → AreFirstNumbers a first → AreRowLines a at.h 1 (c.from-in-Intersect.result - 1) lines.items)
-    (λ lines. (a : Entries) → AreFirstNumbers a first → Fails a c.args.claim → AreLinesOf a c.args.claim lines.items)
-    (λ lines rows a are fails. subst (λ claim. AreLinesOf a claim lines.items) (sym at.is)
+    (λ lines. (a : Entries) → AreFirstNumbers a first → AreLinesOf a c.args.claim lines.items)
+    (λ lines rows a are. subst (λ claim. AreLinesOf a claim lines.items) (sym at.is)
     (lines_of_intersect a at.h at.i at.j lines.items made.1 (subst (λ n. AreRowLines a at.h 1 (n - 1) lines.items) c.from-in-Intersect.ensures (rows a are))))
     c.row_lines.ensures
