@@ -43,6 +43,7 @@ ROW = re.compile(r"\| [^|]+ \| `(?P<file>\w+)` \| `(?P<array>\{[\d,;]+\})` \| (?
 REFUSED_ROW = re.compile(r"\| `(?P<file>\w+)` \| `(?P<answer>(?:rejected|undecided|bad input,)[^`]+)` \|")
 EXAMPLE = re.compile(r"^\.EX\n\$ (?P<command>.*)\n(?P<printed>(?:.*\n)*?)\.EE$", re.MULTILINE)
 SURVIVOR, INFEASIBLE, UNDECIDED, ACCEPTED, REJECTED, BAD_INPUT = 0, 1, 3, 0, 5, 65
+CANNOT_BUILD = 70
 # The exit number of an answer that isn't `accepted`, by its first word.
 REFUSED_STATUS = {"rejected": REJECTED, "undecided": UNDECIDED, "bad": BAD_INPUT}
 # Each fault of a run: the command, where $drg stands for the program, its line, and its exit number.
@@ -247,8 +248,11 @@ def page_cases():
 
 
 def main():
+    # Builds the program once, and says so.
     build = [TOP / "bin" / "drg", "check", EXAMPLES / "petersen.txt"]
-    subprocess.run(build, stdout=subprocess.DEVNULL, check=False)  # builds it once, and says so
+    if subprocess.run(build, stdout=subprocess.DEVNULL, check=False).returncode == CANNOT_BUILD:
+        print("0 passed, 1 failed")
+        return 1
     passed = failed = 0
     groups = (graph_cases, failing_cases, replay_cases, refused_cases, wide_cases, fault_cases, copy_cases, page_cases)
     for cases in groups:

@@ -15,6 +15,7 @@ from pathlib import Path
 
 FENCE = "```"
 LIMIT_SECONDS = 3600
+CANNOT_BUILD = 70
 
 
 def sessions(path):
@@ -73,8 +74,11 @@ def holds(place, lines, top):
 
 def main():
     top = Path(__file__).resolve().parent.parent
+    # Builds the program once, and says so.
     build = [top / "bin" / "drg", "check", top / "examples" / "petersen.txt"]
-    subprocess.run(build, stdout=subprocess.DEVNULL, check=False)  # builds it once, and says so
+    if subprocess.run(build, stdout=subprocess.DEVNULL, check=False).returncode == CANNOT_BUILD:
+        print("0 passed, 1 failed")
+        return 1
     passed = failed = 0
     for name in sys.argv[1:]:
         for begins, lines in sessions(Path(name)):

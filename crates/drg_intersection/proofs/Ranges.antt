@@ -1,19 +1,16 @@
 -- Whole numbers among the rationals, and when they are in range.
+pub use Rattle.drg_algebra.proofs.WholeParts.{same_whole as one_whole}
 use Rattle.std.proofs.Common.{◌≡◌, ◌<◌, true, false, ◌&&◌, List, [], ◌∷◌, refl, sym, ap, ◌∙◌, subst, arith, inl, inr}
 use Rattle.std.specs.Prelude.{ℤ, pos, ◌+ℤ◌, ◌*ℤ◌, ◌≤ℤ◌, ◌^◌, unsigned_abs, map}
 use Rattle.std.proofs.lemmas.Int.{ints}
 use Rattle.std.proofs.lemmas.Bool.Decides.{nat_tests}
-use mathlib.Core.Quot.Quotient.{exact}
-use Rattle.drg_algebra.specs.Rational.{ℚ, pairs, cross_prop, whole, plus}
+use Rattle.drg_algebra.specs.Rational.{ℚ, whole, plus}
 use Rattle.drg_algebra.proofs.Maps.{whole_map}
 use Rattle.drg_algebra.proofs.Tests.{decided, both}
 use Rattle.drg_array.specs.Numbers.{IsWhole, IsNatural}
 use Rattle.drg_whole.specs.Range.{in_range}
 use Rattle.drg_whole.specs.Sums.{sum_fits_from}
 use Rattle.drg_intersection.specs.Fits.{IsInRange, SumFits}
-
-pub one_whole : (x y : ℤ) → whole x ≡ whole y → x ≡ y
-one_whole x y e = let cross : x *ℤ pos 1 ≡ y *ℤ pos 1 = exact pairs cross_prop e in omega (arith, ints)
 
 pub is_whole : (z : ℤ) → IsWhole (whole z)
 is_whole z = let same : z ≡ pos 1 *ℤ z = omega (arith, ints) in (z, ap whole same)

@@ -8,15 +8,15 @@ use Rattle.std.specs.Ordering.{MatchOrdering, nat_cmp, int_cmp, int_eq, is_eq, o
 use Rattle.std.specs.declared.cmp.Ordering.{Ordering}
 use Rattle.std.specs.declared.cmp.Ordering.TheVariants.{Less, Equal, Greater}
 use mathlib.Core.HLevel.{is_prop→PathP}
-use mathlib.Core.Quot.Quotient.{exact}
 use native.Mathlib.Bridge.{le_prop}
 use Rattle.drg_algebra.specs.Ring.{◌⊕◌, neg, ring2, ring3}
-use Rattle.drg_algebra.specs.Rational.{ℚ, whole, pairs, cross_prop, rationals}
+use Rattle.drg_algebra.specs.Rational.{ℚ, whole, rationals}
 use Rattle.drg_algebra.specs.Rational as Rational
 use Rattle.drg_algebra.specs.Pairs.{root_values}
 use Rattle.drg_algebra.specs.Order.{IsAbove, IsPositive}
 use Rattle.drg_algebra.proofs.Maps.{whole_map}
 use Rattle.drg_algebra.proofs.NumberOrder.{sign_of_whole}
+use Rattle.drg_algebra.proofs.WholeParts.{same_whole}
 use Rattle.drg_quadratic.specs.Values.{IsRoot, root_prop, none_prop, IsOver, Value, plus, minus, norm}
 use Rattle.drg_quadratic.specs.Laws.{minus_nil, flat_plus, value_laws}
 use Rattle.drg_quadratic.specs.Signs.{RationalSign, ValueSign, sign_by_parts, sign_by_norm, sign_by_reverse}
@@ -38,12 +38,9 @@ IsLess x y = (x.root < y.root) ⊎ ((x.root ≡ y.root) × IsPositive y.root (tw
 minus_wholes : (m n : ℤ) → Rational.plus (whole m) (Rational.minus (whole n)) ≡ whole (m -ℤ n)
 minus_wholes m n = ap (Rational.plus (whole m)) (sym (whole_map.minus n)) ∙ sym (whole_map.plus m (neg_ℤ n))
 
-one_whole : (m n : ℤ) → whole m ≡ whole n → m ≡ n
-one_whole m n e = let q : m *ℤ pos 1 ≡ n *ℤ pos 1 = exact pairs cross_prop e in omega (arith, ints)
-
 same_wholes : (m n : ℤ) → Rational.plus (whole m) (Rational.minus (whole n)) ≡ whole (pos 0) → m ≡ n
 same_wholes m n e =
-    let q : (m -ℤ n) ≡ pos 0 = one_whole (m -ℤ n) (pos 0) (sym (minus_wholes m n) ∙ e) in
+    let q : (m -ℤ n) ≡ pos 0 = same_whole (m -ℤ n) (pos 0) (sym (minus_wholes m n) ∙ e) in
     omega (arith, ints)
 
 -- a difference has the sign that the comparison says
@@ -126,7 +123,7 @@ eigenvalue_path x y p q r i = record {
 
 pub one_eigenvalue : (x y : Eigenvalue) → x.root ≡ y.root → twice x ≡ twice y → x ≡ y
 one_eigenvalue x y r e =
-    eigenvalue_path x y (one_whole x.s y.s (ap (λ (z : Value). z.a) e)) (one_whole x.f y.f (ap (λ (z : Value). z.b) e)) r
+    eigenvalue_path x y (same_whole x.s y.s (ap (λ (z : Value). z.a) e)) (same_whole x.f y.f (ap (λ (z : Value). z.b) e)) r
 
 -- ---- the order
 turned : (x y : Eigenvalue) → minus (twice_difference x y) ≡ twice_difference y x
