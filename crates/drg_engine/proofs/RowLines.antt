@@ -19,7 +19,7 @@ use Rattle.drg_whole.specs.Sums.{products_of}
 use Rattle.drg_replay.specs.Rows.{entry, entry_before, entry_above, b_before, balance, balance_sum, balance_fits, balances_from, row_steps}
 use Rattle.drg_replay.proofs.StepLaws.{are_same}
 use Rattle.drg_replay.proofs.RowLaws.{start_entry, entry_front, entry_end, length_more}
-use Rattle.drg_engine.proofs.StepTests.{at_most, above, same_whole, same_fits, sum_in_range}
+use Rattle.drg_engine.proofs.StepTests.{at_most, above, same_whole, sum_in_range}
 
 -- the rows of h state the numbers q
 pub record AreStated (a : Entries) (h : ℕ) (q : ℕ → ℕ → ℚ) (rows : List (List ℤ)) : Type 0 where
@@ -91,7 +91,7 @@ module _ (a : Entries) (h : ℕ) (q : ℕ → ℕ → ℚ) (qs : AreIntersection
     pub sum_passes : Fits a (P h (suc i) j) → balance_fits a h rows i j ≡ true
     sum_passes fits =
         let Q : List ℚ → Type 0 = λ xs. SumFits (whole (pos 0)) xs in
-        same_fits (pos 0) (products_of (balance a h rows i j)) ∙ sum_out (pos 0) _ (subst Q products_are (fits q qs))
+        sum_out (pos 0) _ (subst Q products_are (fits q qs))
 
     cell_step : (value : ℤ) → i < diameter a → q (suc i) j ≡ whole value → Fits a (P h (suc i) j) → CellStep a h rows i j value
     cell_step value inside is fits =

@@ -7,7 +7,6 @@ use Rattle.std.proofs.lemmas.Int.{ints}
 use Rattle.drg_algebra.specs.Rational.{ℚ, whole}
 use Rattle.drg_algebra.proofs.Tests.{decided, both}
 use Rattle.drg_intersection.specs.Fits.{IsInRange}
-use Rattle.drg_whole.specs.Sums as Table
 use Rattle.drg_intersection.proofs.Ranges.{range_out}
 use Rattle.drg_replay.specs.Steps.{Step, Holds, Fits, EachHolds, first_failure}
 use Rattle.drg_whole.specs.Range.{in_range}
@@ -47,11 +46,6 @@ one false b (inr e) = e
 -- ---- the range
 pub in_the_range : (x : ℚ) (z : ℤ) → x ≡ whole z → IsInRange x → in_range z ≡ true
 in_the_range x z e h = elim (decided (in_range z)) [ inl inside ↦ inside | inr outside ↦ absurd (range_out x z e outside h) ]
-
--- both crates write the same sum
-pub same_fits : (total : ℤ) (zs : List ℤ) → sum_fits_from total zs ≡ Table.sum_fits_from total zs
-same_fits total [] = refl
-same_fits total (z ∷ zs) = ap (λ b. in_range z && in_range (total +ℤ z) && b) (same_fits (total +ℤ z) zs)
 
 -- the last sum is in range
 pub sum_in_range : (total : ℤ) (zs : List ℤ) → in_range total ≡ true → sum_fits_from total zs ≡ true → in_range (sum_from total zs) ≡ true

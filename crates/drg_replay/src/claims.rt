@@ -4,7 +4,7 @@ ghost use Rattle.drg_array.specs.Entries.{diameter};
 ghost use Rattle.drg_replay.specs.Steps.{first_failure};
 ghost use Rattle.drg_replay.specs.Claims.{claim_is_met as the_claim_is_met, is_distance as the_is_distance, size_closing, intersect_closing, closing_steps};
 
-use crate::entries::{see_bounds, times_entry};
+use crate::entries::times_entry;
 use crate::known::Known;
 use crate::parity::{check_handshake, check_induced, check_triangles, divides};
 use crate::refusal::{Refusal, met_where, not_built};
@@ -48,7 +48,7 @@ fn check_size(array: &Array, sizes: &Option<NumberList>, i: usize) -> Result<(),
     requires high { i ≤ diameter array.now }
     ensures { result ≡ first_failure (size_closing array.now sizes.now i) }
 {
-    see_bounds(array);
+    array.known_valid();
     if values_of(sizes).len() < i {
         return Err(Refusal::NotMet);
     }
@@ -68,7 +68,7 @@ fn check_intersect(
     requires j { j ≤ diameter array.now }
     ensures { result ≡ first_failure (intersect_closing array.now h rows.now i j) }
 {
-    see_bounds(array);
+    array.known_valid();
     if i == 0 || !row_stands(rows, i - 1) {
         return Err(Refusal::NotMet);
     }
@@ -82,7 +82,7 @@ pub fn check_closing(known: &Known) -> Result<(), Refusal>
 {
     let array = known.array();
     let counts = known.counts();
-    see_bounds(array);
+    array.known_valid();
     match known.claim() {
         Claim::First => met_where(array.c(1) != 1),
         Claim::Degree { i } => met_where(array.a(usize::from(i)) < 0),

@@ -1,19 +1,12 @@
 //! The entries of an array next to an index, and products with them.
 ghost use Rattle.std.specs.Prelude.{◌≡◌, ◌≤◌, ◌*ℤ◌, suc, pos};
-ghost use Rattle.drg_array.specs.Entries.{IsArray, diameter, c_at};
+ghost use Rattle.drg_array.specs.Entries.{diameter, c_at};
 ghost use Rattle.drg_whole.specs.Range.{Gives, in_range};
 ghost use Rattle.drg_whole.specs.Whole.{value_of};
 ghost use Rattle.drg_replay.specs.Rows.{b_before as the_b_before};
 
 use drg_array::Array;
 use drg_whole::{Product, Whole, Wide};
-
-/// For the prover alone: an array keeps within the bounds of its type.
-pub fn see_bounds(array: &Array)
-    ensures { IsArray array.now }
-{
-    let _ = array.d();
-}
 
 /// `b_(j-1)`, and 0 for j = 0.
 pub fn b_before(array: &Array, j: usize) -> u16

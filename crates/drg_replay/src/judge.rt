@@ -13,7 +13,6 @@ ghost use Rattle.drg_derivation.specs.declared.line.Line.{Line};
 
 use crate::answer::ReplayFault;
 use crate::claims::{check_closing, claim_is_met};
-use crate::entries::see_bounds;
 use crate::known::Known;
 use crate::laws::{class_law, graph_law};
 use crate::progress::Progress;
@@ -133,7 +132,7 @@ pub fn replay(alloc: Global, derivation: &Derivation) -> Result<Class, ReplayFau
 {
     graph_law();
     class_law();
-    see_bounds(&derivation.array);
+    derivation.array.known_valid();
     replay_lines(
         alloc,
         &derivation.array,

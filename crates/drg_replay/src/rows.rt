@@ -6,7 +6,7 @@ ghost use Rattle.drg_whole.specs.Range.{Gives};
 ghost use Rattle.drg_whole.specs.Whole.{value_of};
 ghost use Rattle.drg_replay.specs.Rows.{entry as the_entry, entry_before as the_entry_before, entry_above as the_entry_above, row_stands as the_row_stands, balance, balance_sum as the_balance_sum, balance_fits, balance_steps, balances_from, row_steps, of_factors, b_before as the_b_before};
 
-use crate::entries::{b_before, c_after, see_bounds};
+use crate::entries::{b_before, c_after};
 use crate::refusal::{Refusal, met_where_same};
 use drg_array::Array;
 use drg_derivation::NumberList;
@@ -83,7 +83,7 @@ fn term_after(array: &Array, h: usize, rows: &[NumberList], i: usize, j: usize) 
     ensures { result ≡
         of_factors (pos (c_at array.now (suc j))) (the_entry h rows.now i (suc j)) }
 {
-    see_bounds(array);
+    array.known_valid();
     Product {
         left: i128::from(c_after(array, j)),
         right: entry(h, rows, i, j + 1),
@@ -180,7 +180,7 @@ fn check_balances(
     requires i { i < diameter array.now }
     ensures { result ≡ first_failure (balances_from array.now h rows.now i j values.now) }
 {
-    see_bounds(array);
+    array.known_valid();
     match values.split_first() {
         None => Ok(()),
         Some((value, rest)) => {

@@ -4,7 +4,7 @@ ghost use Rattle.drg_array.specs.Entries.{diameter};
 ghost use Rattle.drg_replay.specs.Steps.{first_failure};
 ghost use Rattle.drg_replay.specs.Sizes.{is_full as the_is_full, next_steps, size_at as the_size_at, size_steps, sizes_from, values_of as the_values_of};
 
-use crate::entries::{c_after, see_bounds, times_entry};
+use crate::entries::{c_after, times_entry};
 use crate::refusal::{Refusal, met_where_same};
 use crate::rows::number_at;
 use drg_array::Array;
@@ -25,7 +25,7 @@ fn check_sizes_from(array: &Array, i: usize, last: i128, values: &[i128]) -> Res
     requires { i + length values.now ≤ diameter array.now }
     ensures { result ≡ first_failure (sizes_from array.now i last values.now) }
 {
-    see_bounds(array);
+    array.known_valid();
     match values.split_first() {
         None => Ok(()),
         Some((value, rest)) => {
