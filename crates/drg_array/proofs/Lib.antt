@@ -15,3 +15,4 @@ pub mod TestTexts
 mod Told
 mod ConditionProofs
 mod ExampleProofs
+mod Appends

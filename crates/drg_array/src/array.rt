@@ -2,6 +2,7 @@
 
 ghost use Rattle.std.specs.Prelude.{◌↔◌, IsTrue, IsSome, IfSome, ◌≡◌, ◌≤◌, ◌<◌, ◌++◌, Some, None, IfOk, OnErr, IfErr, OnOk, length};
 ghost use Rattle.std.specs.List.{AllByRecursion};
+ghost use Rattle.drg_algebra.specs.Beginnings.{BeginsWith};
 ghost use Rattle.drg_array.specs.Entries.{Entries, IsEntry, b_at, c_at, a_at, diameter, IsArray};
 ghost use Rattle.drg_array.specs.Text.{IsArrayText, array_text, numbers_text};
 ghost use Rattle.drg_array.specs.Faults.{IsFault};
@@ -80,10 +81,10 @@ impl Array {
         let _read = &self.b;
     }
 
-    /// Appends the canonical text, which has no spaces. After an error a part of it may be
-    /// appended.
+    /// Appends the canonical text, which has no spaces.
     pub fn write_text(&self, out: &mut Vec<u8>) -> Result<(), AllocError>
         ensures ok { OnOk result (out.new.items ≡ out.old.items ++ array_text self.now) }
+        ensures err { OnErr result (BeginsWith (array_text self.now) out.old.items out.new.items) }
     {
         out.push(b'{')?;
         write_numbers(&self.b, out)?;
@@ -145,7 +146,8 @@ fn are_entries(numbers: &[u16]) -> bool
 
 /// Appends the numbers with a comma between two.
 fn write_numbers(numbers: &[u16], out: &mut Vec<u8>) -> Result<(), AllocError>
-    ensures { OnOk result (out.new.items ≡ out.old.items ++ numbers_text numbers.now) }
+    ensures ok { OnOk result (out.new.items ≡ out.old.items ++ numbers_text numbers.now) }
+    ensures err { OnErr result (BeginsWith (numbers_text numbers.now) out.old.items out.new.items) }
 {
     let mut buffer = Buffer::new();
     'numbers: for (place, number) in numbers.iter().enumerate() {

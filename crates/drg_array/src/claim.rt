@@ -1,8 +1,9 @@
 //! What an array fails, and how it is written.
 
-ghost use Rattle.std.specs.Prelude.{◌≡◌, ◌↔◌, [], ◌∷◌, ◌++◌, length, Some, IsSome, IfSome, OnOk};
+ghost use Rattle.std.specs.Prelude.{◌≡◌, ◌↔◌, [], ◌∷◌, ◌++◌, length, Some, IsSome, IfSome, OnOk, OnErr};
+ghost use Rattle.drg_algebra.specs.Beginnings.{BeginsWith};
 ghost use Rattle.drg_array.specs.ClaimOrder.{IsClaimOf};
-ghost use Rattle.drg_array.specs.Claims.{class_name, class_of, claim_text, HasParts, index_count, name_of, spaced};
+ghost use Rattle.drg_array.specs.Claims.{class_name, class_of, claim_text, HasParts, index_count, indices_of, name_of, spaced};
 ghost use Rattle.drg_array.specs.declared.test.Test.{Test as TheTest};
 
 use crate::{ClaimName, Test};
@@ -98,12 +99,21 @@ impl Claim {
         self.name().class()
     }
 
-    /// Appends the name and the indices, with one space before each. After an error a part of it
-    /// may be appended.
+    /// Appends the name and the indices, with one space before each.
     pub fn write_text(&self, out: &mut Vec<u8>) -> Result<(), AllocError>
         ensures ok { OnOk result (out.new.items ≡ out.old.items ++ claim_text self.now) }
+        ensures err { OnErr result (BeginsWith (claim_text self.now) out.old.items out.new.items) }
     {
         out.extend_from_slice(self.name().text().as_bytes())?;
+        self.write_indices(out)
+    }
+
+    /// Appends the indices, with one space before each.
+    fn write_indices(&self, out: &mut Vec<u8>) -> Result<(), AllocError>
+        ensures ok { OnOk result (out.new.items ≡ out.old.items ++ spaced (indices_of self.now)) }
+        ensures err { OnErr result
+            (BeginsWith (spaced (indices_of self.now)) out.old.items out.new.items) }
+    {
         match self {
             Claim::First => Ok(()),
             Claim::Degree { i }
@@ -197,6 +207,7 @@ fn claim_of_three(name: ClaimName, first: u8, second: u8, third: u8) -> Option<C
 /// Appends the numbers, with one space before each.
 pub fn write_spaced(numbers: &[u8], out: &mut Vec<u8>) -> Result<(), AllocError>
     ensures ok { OnOk result (out.new.items ≡ out.old.items ++ spaced numbers.now) }
+    ensures err { OnErr result (BeginsWith (spaced numbers.now) out.old.items out.new.items) }
 {
     let mut buffer = Buffer::new();
     'numbers: for number in numbers {

@@ -1,8 +1,9 @@
 //! The named quantities of the computation.
 
-ghost use Rattle.std.specs.Prelude.{◌≡◌, ◌∷◌, ◌++◌, OnOk};
+ghost use Rattle.std.specs.Prelude.{◌≡◌, ◌∷◌, ◌++◌, OnOk, OnErr};
 ghost use Rattle.std.specs.Fmt.{signed_decimal};
-ghost use Rattle.drg_array.specs.Nodes.{node_text, node_word};
+ghost use Rattle.drg_algebra.specs.Beginnings.{BeginsWith};
+ghost use Rattle.drg_array.specs.Nodes.{node_indices, node_text, node_word};
 
 use crate::claim::write_spaced;
 use itoa::Buffer;
@@ -110,12 +111,21 @@ pub enum Node {
 }
 
 impl Node {
-    /// Appends the word of the node and its indices, with one space before each. After an error a
-    /// part of it may be appended.
+    /// Appends the word of the node and its indices, with one space before each.
     pub fn write_text(&self, out: &mut Vec<u8>) -> Result<(), AllocError>
         ensures ok { OnOk result (out.new.items ≡ out.old.items ++ node_text self.now) }
+        ensures err { OnErr result (BeginsWith (node_text self.now) out.old.items out.new.items) }
     {
         out.extend_from_slice(self.word().as_bytes())?;
+        self.write_indices(out)
+    }
+
+    /// Appends the indices, with one space before each.
+    fn write_indices(&self, out: &mut Vec<u8>) -> Result<(), AllocError>
+        ensures ok { OnOk result (out.new.items ≡ out.old.items ++ node_indices self.now) }
+        ensures err { OnErr result
+            (BeginsWith (node_indices self.now) out.old.items out.new.items) }
+    {
         match self {
             Node::N => Ok(()),
             Node::K { i } | Node::M { i } => write_spaced(&[*i], out),
@@ -167,6 +177,8 @@ impl Node {
 /// Appends a space and the number.
 fn write_signed(number: i32, out: &mut Vec<u8>) -> Result<(), AllocError>
     ensures ok { OnOk result (out.new.items ≡ out.old.items ++ 32 ∷ signed_decimal number) }
+    ensures err { OnErr result
+        (BeginsWith (32 ∷ signed_decimal number) out.old.items out.new.items) }
 {
     out.push(b' ')?;
     out.extend_from_slice(Buffer::new().format(number).as_bytes())

@@ -1,6 +1,6 @@
 //! The names of the fourteen tests.
 
-ghost use Rattle.std.specs.Prelude.{◌≡◌, ◌↔◌, ◌++◌, IsTrue, OnOk};
+ghost use Rattle.std.specs.Prelude.{◌≡◌, ◌↔◌, ◌++◌, IsTrue, OnOk, OnErr};
 ghost use Rattle.drg_array.specs.Claims.{class_of_test, index_count_of_test, test_name};
 ghost use Rattle.drg_array.specs.ClaimOrder.{test_number};
 ghost use Rattle.drg_array.specs.TestLists.{IsAlwaysRun};
@@ -126,9 +126,10 @@ impl Test {
         }
     }
 
-    /// Appends the name. After an error nothing is appended.
+    /// Appends the name.
     pub fn write_text(&self, out: &mut Vec<u8>) -> Result<(), AllocError>
         ensures ok { OnOk result (out.new.items ≡ out.old.items ++ test_name self.now) }
+        ensures err { OnErr result (out.new.items ≡ out.old.items) }
     {
         out.extend_from_slice(self.name().as_bytes())
     }

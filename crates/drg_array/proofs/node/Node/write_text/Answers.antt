@@ -1,0 +1,10 @@
+use Rattle.std.proofs.Common.{refl, arith}
+use Rattle.drg_algebra.proofs.Beginnings.{begins_last}
+use Rattle.drg_array.specs.Nodes.{node_word}
+use Rattle.drg_array.proofs.node.Node.write_text.Goals as goal
+
+pub returns-clause-err : goal.returns-clause-err
+returns-clause-err c =
+    let old = c.args.out.now.items in
+    begins_last _ old (node_word c.args.self.now) _ _ c.write_indices.ensures.err
+    (grind (arith, c.in_ok-extend_from_slice.ensures.items, c.as_bytes.ensures.value, c.word.ensures)) refl
