@@ -6,3 +6,4 @@ pub mod RootLaws
 pub mod KnownLaws
 pub mod AloneLaws
 pub mod Soundness
+pub mod ReplayedLaws

@@ -1,6 +1,8 @@
 -- Laws of the answer, and of what lines make known.
-use Rattle.std.specs.Prelude.{◌≡◌, ◌↔◌, ℕ, suc, ◌+◌, ◌<◌, ℤ, pos, List, [], ◌++◌, length, slice_index_or, Contains, Some, Result, Ok, Err}
+use Rattle.std.specs.Prelude.{◌≡◌, ◌↔◌, true, ℕ, suc, ◌+◌, ◌<◌, ℤ, pos, List, [], ◌++◌, length, slice_index_or, All, Contains, Some, Result, Ok, Err}
 use Rattle.drg_array.specs.Entries.{Entries}
+use Rattle.drg_array.specs.Claims.{name_of}
+use Rattle.drg_array.specs.declared.claim_name.TheConstants.{REPLAYED}
 use Rattle.drg_array.specs.declared.claim.Claim.{Claim}
 use Rattle.drg_array.specs.declared.claim.Class.{Class}
 use Rattle.drg_derivation.specs.Content.{Content}
@@ -11,8 +13,18 @@ use Rattle.drg_replay.specs.declared.answer.ReplayFault.{ReplayFault}
 use Rattle.drg_replay.specs.declared.answer.ReplayFault.TheVariants.{NotMet, Open, Wide, Memory}
 use Rattle.drg_replay.specs.Known.{KnownContent}
 use Rattle.drg_replay.specs.Rows.{rows_at}
+use Rattle.drg_replay.specs.Claims.{claim_is_met}
 use Rattle.drg_replay.specs.Lines.{known_of, known_at_end}
 use Rattle.drg_replay.specs.Answers.{AllAreMet, progress_of, answer_after, answer_of, accepted_class}
+
+-- A claim line is met for the claims alone that a replay knows, and for each of these there are numbers
+-- of an array for which it is.
+pub record ReplayedLaw : Type 0 where
+  pub known : (a : Entries) (claim : Claim) → claim_is_met a claim ≡ true → Contains REPLAYED (name_of claim)
+  pub each :
+      All
+      (λ name. (a : Entries) × (claim : Claim) × (name_of claim ≡ name) × (claim_is_met a claim ≡ true))
+      REPLAYED
 
 -- the class of an accepted derivation is spectral exactly where a `frame` line stands
 abbrev pub ClassLaw : Type 0

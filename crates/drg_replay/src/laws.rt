@@ -1,12 +1,17 @@
 //! The laws of the answer and of met lines.
 ghost use Rattle.drg_replay.specs.Roots.{RootLaw};
-ghost use Rattle.drg_replay.specs.Laws.{ClassLaw, KnownAloneLaw, KnownRowsLaw, KnownSizesLaw};
+ghost use Rattle.drg_replay.specs.Laws.{ClassLaw, KnownAloneLaw, KnownRowsLaw, KnownSizesLaw, ReplayedLaw};
 ghost use Rattle.drg_replay.specs.Soundness.{GraphLaw, MetRowsLaw, MetSizesLaw};
 
 use drg_graph::{
     cross_law, degree_law, first_law, handshake_law, induced_law, intersect_law, order_law,
     rows_law, size_law, sizes_law, triangles_law,
 };
+
+/// A claim line is met for the claims alone that a replay knows, and each of these can be.
+pub fn replayed_law()
+    ensures { ReplayedLaw }
+{}
 
 /// The class of an accepted derivation is spectral exactly where a `frame` line stands.
 pub fn class_law()
