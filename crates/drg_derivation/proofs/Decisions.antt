@@ -1,13 +1,13 @@
 -- Bytes begin with a derivation or are refused, and lines that come to the end are those of one.
-use Rattle.std.proofs.Common.{◌≡◌, ℕ, zero, suc, ◌+◌, ◌-◌, ◌≤◌, ◌<◌, inl, inr, true, false, List, [], ◌∷◌, ◌++◌, length, drop, None, Some, refl, sym, ap, subst, ◌∙◌, arith, length-append}
-use Rattle.std.specs.Prelude.{◌≢◌, ◌⊎◌, Option, ◌==◌}
+use Rattle.std.proofs.Common.{◌≡◌, ℕ, zero, suc, ◌+◌, ◌-◌, ◌<◌, inl, inr, List, [], ◌∷◌, ◌++◌, length, drop, None, Some, refl, sym, ap, subst, ◌∙◌, arith, length-append}
+use Rattle.std.specs.Prelude.{◌≢◌, ◌⊎◌, Option}
 use Rattle.std.proofs.lemmas.Bool.Decides.{eqb_tells}
 use Rattle.std.proofs.Math.Seq.{drop-append_seam}
 use Rattle.drg_array.specs.Entries.{Entries}
 use Rattle.drg_derivation.specs.Content.{Content}
 use Rattle.drg_derivation.specs.Laws.{AreLinesOfDerivation}
 use Rattle.drg_derivation.specs.LineReading.{line_read}
-use Rattle.drg_derivation.specs.Places.{Reading, start, HandsOut, HandsOutAll, Stops, StopsAfter, IsBad, IsRefusedAt, IsLineAt, StandsAt, HasNoEnd, AreLinesFrom, next_place}
+use Rattle.drg_derivation.specs.Places.{Reading, start, HandsOut, HandsOutAll, StopsAfter, IsBad, IsRefusedAt, IsLineAt, HasNoEnd, AreLinesFrom, next_place}
 use Rattle.drg_derivation.specs.Text.{Begins, evidence_views, lines_of}
 use Rattle.drg_derivation.specs.Words.{Written}
 use Rattle.drg_derivation.specs.WordReading.{written_at}

@@ -1,25 +1,25 @@
 -- The version, the array and the claim are read exactly from the numbers that they are written with.
-use Rattle.std.proofs.Common.{◌≡◌, ℕ, zero, suc, ◌+◌, ◌*◌, ◌≤◌, ◌<◌, Bool, true, false, inl, inr, List, [], ◌∷◌, ◌++◌, length, take, drop, None, Some, refl, sym, ap, subst, ◌∙◌, arith, append_assoc, length-append, length-drop, ℤ, pos, negsuc}
+use Rattle.std.proofs.Common.{◌≡◌, ℕ, zero, suc, ◌+◌, ◌*◌, ◌≤◌, Bool, true, false, inl, inr, List, [], ◌∷◌, ◌++◌, length, take, drop, None, Some, refl, sym, ap, subst, ◌∙◌, arith, append_assoc, length-append, ℤ, pos, negsuc}
 use Rattle.std.specs.Bool.{Decides}
 use Rattle.std.specs.Prelude.{Option, nat_le, ◌==◌, ◌&&◌, if◌then◌else◌, map, is_some, IsSome, IfSome}
 use Rattle.std.specs.List.{AllByRecursion}
-use Rattle.std.proofs.lemmas.Bool.Decides.{nat_tests, Decides-and, Decides-like, Decides-eqb}
-use Rattle.std.proofs.lemmas.List.{take-append-drop, map-append}
+use Rattle.std.proofs.lemmas.Bool.Decides.{Decides-and, Decides-like, Decides-eqb}
+use Rattle.std.proofs.lemmas.List.{take-append-drop}
 use Rattle.std.proofs.Math.Seq.{take-append_seam, drop-append_seam}
 use Rattle.drg_array.specs.Entries.{Entries, IsArray, IsEntry, diameter}
-use Rattle.drg_array.specs.Claims.{test_of, indices_of}
+use Rattle.drg_array.specs.Claims.{name_of, indices_of, index_count, HasParts}
 use Rattle.drg_array.specs.declared.limits.TheConstants.{MAX_DIAMETER, MAX_ENTRY}
-use Rattle.drg_array.specs.declared.test.Test.{Test}
+use Rattle.drg_array.specs.declared.claim_name.ClaimName.{ClaimName}
+use Rattle.drg_array.specs.declared.claim_name.ClaimName.TheVariants.{OfTest}
 use Rattle.drg_array.specs.declared.test.Test.TheVariants as test
 use Rattle.drg_array.specs.declared.claim.Claim.{Claim}
 use Rattle.drg_array.specs.declared.claim.Claim.TheVariants as claim
-use Rattle.drg_derivation.specs.Header.{natural, naturals, naturals_after, version_named, version_with, version_read, are_entries, array_made, array_from, array_with, array_read, claim_made, claim_of_none, claim_of_one, claim_of_two, claim_of_three, claim_with, claim_read}
+use Rattle.drg_derivation.specs.Header.{natural, naturals, naturals_after, version_named, version_with, version_read, are_entries, array_made, array_from, array_with, array_read, claim_made, claim_with, claim_read}
 use Rattle.drg_derivation.specs.Reading.{◌>>=◌}
 use Rattle.drg_derivation.specs.Shapes.{first_of}
 use Rattle.drg_derivation.specs.Words.{Written, written, takes_name, array_numbers, IsClaim}
 use Rattle.drg_derivation.specs.declared.word.Word.{Word}
 use Rattle.drg_derivation.specs.declared.word.Word.TheVariants as word
-use Rattle.drg_derivation.specs.declared.view.LineView.{LineView}
 use Rattle.drg_derivation.specs.declared.view.LineView.TheVariants.{Version, Array, Claim as ClaimView}
 use Rattle.drg_derivation.proofs.OptionLaws.{chosen, same_some, bound}
 use Rattle.drg_derivation.proofs.ShapeLaws.{le-Decides}
@@ -68,11 +68,11 @@ naturals-again limit [] h = refl
 naturals-again limit (n ∷ ns) h = rw ((le-Decides n limit).1 h.0) (rw (naturals-again limit ns h.1) refl)
 
 -- ---- words and numbers
-pub written-eq : (word : Word) (name other : Option Test) (numbers more : List ℤ) → name ≡ other → numbers ≡ more
+pub written-eq : (word : Word) (name other : Option ClaimName) (numbers more : List ℤ) → name ≡ other → numbers ≡ more
     → (let w : Written = record { word = word; name = name; numbers = numbers } in w) ≡ record { word = word; name = other; numbers = more }
 written-eq word name other numbers more a b = cc
 
-pub no-name : (name : Option Test) → false ≡ is_some name → name ≡ None
+pub no-name : (name : Option ClaimName) → false ≡ is_some name → name ≡ None
 no-name None e = refl
 no-name (Some test) e = (let h = e in cc)
 
@@ -92,7 +92,7 @@ version-named z v e =
       | inr bad ↦ (let none = bad.1 in cc)
     ]
 
-version-with : (word : Word) (name : Option Test) (numbers : List ℤ) (v : ℕ) → takes_name word ≡ is_some name → version_with word numbers ≡ Some v
+version-with : (word : Word) (name : Option ClaimName) (numbers : List ℤ) (v : ℕ) → takes_name word ≡ is_some name → version_with word numbers ≡ Some v
     → (v ≡ 1) × (written (Version v) ≡ record { word = word; name = name; numbers = numbers })
 version-with word.Drg name numbers v named e =
     elim (chosen (length numbers == 1) _ _ _ e) [
@@ -185,7 +185,7 @@ array_from-again a array =
     rw ((Decides-eqb (length (a.b ++ a.c)) (2 * length a.b)).1 len, take-append_seam a.b a.c, drop-append_seam a.b a.c)
     (array_made-again a.b a.c array)
 
-array-with : (word : Word) (name : Option Test) (numbers : List ℤ) (a : Entries) → takes_name word ≡ is_some name → array_with word numbers ≡ Some a
+array-with : (word : Word) (name : Option ClaimName) (numbers : List ℤ) (a : Entries) → takes_name word ≡ is_some name → array_with word numbers ≡ Some a
     → IsArray a × (written (Array a) ≡ record { word = word; name = name; numbers = numbers })
 array-with word.Array name numbers a named e =
     elim (chosen (nat_le (length numbers) (2 * MAX_DIAMETER + 1)) _ _ _ e) [
@@ -224,52 +224,49 @@ array_read-again a array =
     rw ((le-Decides (length (array_numbers a)) (2 * MAX_DIAMETER + 1)).1 len, naturals-again 65535 (diameter a ∷ (a.b ++ a.c)) below) (array_from-again a array)
 
 -- ---- the claim
-pub claim_made-again : (c : Claim) → claim_made (test_of c) (indices_of c) ≡ Some c
+claim_made-again : (c : Claim) → claim_made (name_of c) (indices_of c) ≡ Some c
 claim_made-again claim.First = refl
 claim_made-again _ = refl
 
--- the claim has this test and these indices
-record IsClaimOf (t : Test) (ns : List ℕ) (c : Claim) : Type 0 where
-  test_is : t ≡ test_of c
-  indices_are : ns ≡ indices_of c
+parts : (name : ClaimName) (ns : List ℕ) (x c : Claim) → HasParts name ns x → Some x ≡ Some c → HasParts name ns c
+parts name ns x c is e = subst (HasParts name ns) (same_some x c e) is
 
-made : (t : Test) (ns : List ℕ) (x c : Claim) → IsClaimOf t ns x → Some x ≡ Some c → IsClaimOf t ns c
-made t ns x c is e = subst (IsClaimOf t ns) (same_some x c e) is
+claim_made-is : (name : ClaimName) (ns : List ℕ) (c : Claim) → claim_made name ns ≡ Some c → HasParts name ns c
+claim_made-is (OfTest test.First) [] c e = parts _ _ claim.First c (refl, refl) e
+claim_made-is (OfTest test.Degree) (i ∷ []) c e = parts _ _ (claim.Degree i) c (refl, refl) e
+claim_made-is (OfTest test.Order) (i ∷ []) c e = parts _ _ (claim.Order i) c (refl, refl) e
+claim_made-is (OfTest test.Cross) (i ∷ j ∷ []) c e = parts _ _ (claim.Cross i j) c (refl, refl) e
+claim_made-is (OfTest test.Size) (i ∷ []) c e = parts _ _ (claim.Size i) c (refl, refl) e
+claim_made-is (OfTest test.Intersect) (h ∷ i ∷ j ∷ []) c e = parts _ _ (claim.Intersect h i j) c (refl, refl) e
+claim_made-is (OfTest test.Handshake) (i ∷ []) c e = parts _ _ (claim.Handshake i) c (refl, refl) e
+claim_made-is (OfTest test.Induced) (i ∷ j ∷ []) c e = parts _ _ (claim.Induced i j) c (refl, refl) e
+claim_made-is (OfTest test.Triangles) (i ∷ []) c e = parts _ _ (claim.Triangles i) c (refl, refl) e
+claim_made-is (OfTest test.Mult) (i ∷ []) c e = parts _ _ (claim.Mult i) c (refl, refl) e
+claim_made-is (OfTest test.Krein) (i ∷ j ∷ h ∷ []) c e = parts _ _ (claim.Krein i j h) c (refl, refl) e
+claim_made-is (OfTest test.Absolute) (i ∷ j ∷ []) c e = parts _ _ (claim.Absolute i j) c (refl, refl) e
+claim_made-is (OfTest test.Triple) (u ∷ v ∷ w ∷ []) c e = parts _ _ (claim.Triple u v w) c (refl, refl) e
+claim_made-is (OfTest test.Ktriple) (u ∷ v ∷ w ∷ []) c e = parts _ _ (claim.Ktriple u v w) c (refl, refl) e
+claim_made-is _ ns c e = (let none = e in cc)
 
-none-is : (t : Test) (c : Claim) → claim_of_none t ≡ Some c → IsClaimOf t [] c
-none-is test.First c e = made _ _ claim.First c (record { test_is = refl; indices_are = refl }) e
-none-is _ c e = (let none = e in cc)
+count-is : (c : Claim) → length (indices_of c) ≡ index_count (name_of c)
+count-is claim.First = refl
+count-is _ = refl
 
-one-is : (t : Test) (i : ℕ) (c : Claim) → claim_of_one t i ≡ Some c → IsClaimOf t (i ∷ []) c
-one-is test.Degree i c e = made _ _ (claim.Degree i) c (record { test_is = refl; indices_are = refl }) e
-one-is test.Order i c e = made _ _ (claim.Order i) c (record { test_is = refl; indices_are = refl }) e
-one-is test.Size i c e = made _ _ (claim.Size i) c (record { test_is = refl; indices_are = refl }) e
-one-is test.Handshake i c e = made _ _ (claim.Handshake i) c (record { test_is = refl; indices_are = refl }) e
-one-is test.Triangles i c e = made _ _ (claim.Triangles i) c (record { test_is = refl; indices_are = refl }) e
-one-is test.Mult i c e = made _ _ (claim.Mult i) c (record { test_is = refl; indices_are = refl }) e
-one-is _ i c e = (let none = e in cc)
+-- what makes a claim exactly where there are as many indices as its name has makes that of the definition
+pub claim_made-by : (o : Option Claim) (name : ClaimName) (ns : List ℕ) → (length ns ≡ index_count name → IsSome o) → IfSome o (HasParts name ns) → o ≡ claim_made name ns
+claim_made-by (Some c) name ns some is =
+    sym (claim_made-again c) ∙ (ap (λ (n : ClaimName). claim_made n (indices_of c)) is.0 ∙ ap (claim_made name) is.1)
+claim_made-by None name ns some is = of (claim_made name ns) refl
+  where
+    of : (o : Option Claim) → claim_made name ns ≡ o → None ≡ claim_made name ns
+    of None e = sym e
+    of (Some c) e =
+        let p = claim_made-is name ns c e in
+        let count : length ns ≡ index_count name = ap length (sym p.1) ∙ (count-is c ∙ ap index_count p.0) in
+        let found = some count in
+        absurd (let f = found in cc)
 
-two-is : (t : Test) (i j : ℕ) (c : Claim) → claim_of_two t i j ≡ Some c → IsClaimOf t (i ∷ j ∷ []) c
-two-is test.Cross i j c e = made _ _ (claim.Cross i j) c (record { test_is = refl; indices_are = refl }) e
-two-is test.Induced i j c e = made _ _ (claim.Induced i j) c (record { test_is = refl; indices_are = refl }) e
-two-is test.Absolute i j c e = made _ _ (claim.Absolute i j) c (record { test_is = refl; indices_are = refl }) e
-two-is _ i j c e = (let none = e in cc)
-
-three-is : (t : Test) (i j h : ℕ) (c : Claim) → claim_of_three t i j h ≡ Some c → IsClaimOf t (i ∷ j ∷ h ∷ []) c
-three-is test.Intersect i j h c e = made _ _ (claim.Intersect i j h) c (record { test_is = refl; indices_are = refl }) e
-three-is test.Krein i j h c e = made _ _ (claim.Krein i j h) c (record { test_is = refl; indices_are = refl }) e
-three-is test.Triple i j h c e = made _ _ (claim.Triple i j h) c (record { test_is = refl; indices_are = refl }) e
-three-is test.Ktriple i j h c e = made _ _ (claim.Ktriple i j h) c (record { test_is = refl; indices_are = refl }) e
-three-is _ i j h c e = (let none = e in cc)
-
-claim_made-is : (t : Test) (ns : List ℕ) (c : Claim) → claim_made t ns ≡ Some c → IsClaimOf t ns c
-claim_made-is t [] c e = none-is t c e
-claim_made-is t (i ∷ []) c e = one-is t i c e
-claim_made-is t (i ∷ j ∷ []) c e = two-is t i j c e
-claim_made-is t (i ∷ j ∷ h ∷ []) c e = three-is t i j h c e
-claim_made-is t (i ∷ j ∷ h ∷ g ∷ more) c e = (let none = e in cc)
-
-claim-with : (word : Word) (name : Option Test) (numbers : List ℤ) (c : Claim) → claim_with word name numbers ≡ Some c
+claim-with : (word : Word) (name : Option ClaimName) (numbers : List ℤ) (c : Claim) → claim_with word name numbers ≡ Some c
     → IsClaim c × (written (ClaimView c) ≡ record { word = word; name = name; numbers = numbers })
 claim-with word.Claim name numbers c e =
     let t = bound name _ _ e in
@@ -277,9 +274,9 @@ claim-with word.Claim name numbers c e =
       | inl good ↦ (let ns = bound (naturals 255 numbers) _ _ good.1 in
           let are = naturals-are 255 numbers ns.0 ns.1 in
           let is = claim_made-is t.0 ns.0 c ns.2 in
-          let all : map pos (indices_of c) ≡ numbers = ap (map pos) (sym is.indices_are) ∙ are.0 in
-          let test : Some (test_of c) ≡ name = ap (λ (x : Test). Some x) (sym is.test_is) ∙ sym t.1 in
-          (subst (AreBelow 255) is.indices_are are.1, written-eq word.Claim (Some (test_of c)) name (map pos (indices_of c)) numbers test all))
+          let all : map pos (indices_of c) ≡ numbers = ap (map pos) is.1 ∙ are.0 in
+          let known : Some (name_of c) ≡ name = ap (λ (x : ClaimName). Some x) is.0 ∙ sym t.1 in
+          (subst (AreBelow 255) (sym is.1) are.1, written-eq word.Claim (Some (name_of c)) name (map pos (indices_of c)) numbers known all))
       | inr bad ↦ (let none = bad.1 in cc)
     ]
 claim-with _ name numbers c e = (let none = e in cc)

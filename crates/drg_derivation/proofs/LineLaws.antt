@@ -1,11 +1,10 @@
 -- A line is read at its place exactly where it stands there.
-use Rattle.std.proofs.Common.{◌≡◌, ℕ, true, false, inl, inr, List, [], length, None, Some, refl, sym, ap, subst, ◌∙◌, arith, ℤ}
+use Rattle.std.proofs.Common.{◌≡◌, ℕ, false, inl, inr, List, [], length, None, Some, refl, sym, ap, subst, ◌∙◌, ℤ}
 use Rattle.std.specs.Prelude.{Option, ◌==◌, is_some}
 use Rattle.std.proofs.lemmas.Bool.Decides.{Decides-eqb}
 use Rattle.std.proofs.lemmas.List.{nil_from_length}
-use Rattle.drg_array.specs.Entries.{Entries, diameter}
-use Rattle.drg_array.specs.declared.claim.Claim.{Claim as TheClaim}
-use Rattle.drg_array.specs.declared.test.Test.{Test}
+use Rattle.drg_array.specs.Entries.{diameter}
+use Rattle.drg_array.specs.declared.claim_name.ClaimName.{ClaimName}
 use Rattle.drg_derivation.specs.Header.{version_read, array_read, claim_read}
 use Rattle.drg_derivation.specs.Lines.{kind_of, numbers_of, line_made, IsSuited, after_line}
 use Rattle.drg_derivation.specs.LineReading.{suits, evidence_of, evidence_with, evidence_read, line_read}
@@ -36,7 +35,7 @@ pub record ReadsLine (place : Place) (w : Written) (line : LineView) (next : Pla
 reads : (place : Place) (w : Written) (x : LineView × Place) (line : LineView) (next : Place) → ReadsLine place w x.0 x.1 → Some x ≡ Some (line, next) → ReadsLine place w line next
 reads place w x line next r e = subst (λ (y : LineView × Place). ReadsLine place w y.0 y.1) (same_some x (line, next) e) r
 
-evidence-reads : (context : Context) (k : Kind) (name : Option Test) (numbers : List ℤ) (line : LineView) (next : Place) → false ≡ is_some name
+evidence-reads : (context : Context) (k : Kind) (name : Option ClaimName) (numbers : List ℤ) (line : LineView) (next : Place) → false ≡ is_some name
     → evidence_of context k numbers ≡ Some (line, next)
     → ReadsLine (place.Evidence context) (record { word = word.Evidence k; name = name; numbers = numbers }) line next
 evidence-reads context k name numbers line next named e =
@@ -58,7 +57,7 @@ evidence-reads context k name numbers line next named e =
       | inr bad ↦ (let none = bad.1 in cc)
     ]
 
-end-reads : (context : Context) (name : Option Test) (numbers : List ℤ) (line : LineView) (next : Place) → false ≡ is_some name
+end-reads : (context : Context) (name : Option ClaimName) (numbers : List ℤ) (line : LineView) (next : Place) → false ≡ is_some name
     → evidence_with context word.End numbers ≡ Some (line, next)
     → ReadsLine (place.Evidence context) (record { word = word.End; name = name; numbers = numbers }) line next
 end-reads context name numbers line next named e =
@@ -70,7 +69,7 @@ end-reads context name numbers line next named e =
       | inr bad ↦ (let none = bad.1 in cc)
     ]
 
-among-reads : (context : Context) (word : Word) (name : Option Test) (numbers : List ℤ) (line : LineView) (next : Place) → takes_name word ≡ is_some name
+among-reads : (context : Context) (word : Word) (name : Option ClaimName) (numbers : List ℤ) (line : LineView) (next : Place) → takes_name word ≡ is_some name
     → evidence_with context word numbers ≡ Some (line, next)
     → ReadsLine (place.Evidence context) (record { word = word; name = name; numbers = numbers }) line next
 among-reads context (word.Evidence k) name numbers line next named e = evidence-reads context k name numbers line next named e

@@ -3,11 +3,12 @@ use Rattle.std.proofs.Common.{◌≡◌, ℕ, zero, suc, ◌+◌, ◌-◌, ◌*�
 use Rattle.std.specs.Prelude.{◌≢◌, Option, ◌==◌, ◌&&◌, not}
 use Rattle.std.proofs.lemmas.Bool.Decides.{nat_tests}
 use Rattle.drg_array.specs.Text.{IsNumberFrom}
-use Rattle.drg_array.specs.declared.test.Test.{Test}
+use Rattle.drg_array.specs.declared.claim_name.ClaimName.{ClaimName}
+use Rattle.drg_array.specs.declared.claim_name.ClaimName.TheVariants.{OfTest}
 use Rattle.drg_array.specs.declared.test.Test.TheVariants as test
 use Rattle.drg_derivation.specs.Integers.{IsPositiveText, IsIntegerText, AreIntegers}
 use Rattle.drg_derivation.specs.Places.{Reading, start, HandsOut, HandsOutAll, Stops, StopsAfter, IsBad, IsRefusedAt, IsLineAt, StandsAt, AreLinesFrom, HasNoEnd, next_place}
-use Rattle.drg_derivation.specs.Words.{Written, IsWrittenText, word_text, name_text, words_text, written}
+use Rattle.drg_derivation.specs.Words.{Written, IsWrittenText, word_text, second_text, words_text, written}
 use Rattle.drg_derivation.specs.WordReading.{kind_word}
 use Rattle.drg_derivation.specs.declared.kind.Kind.{Kind}
 use Rattle.drg_derivation.specs.declared.kind.Kind.TheVariants as kind
@@ -40,9 +41,9 @@ unfolding no_end
 open-kind kind.K = refl
 open-kind _ = refl
 
-open-name : (t : Test) → no_end (name_text (Some t)) ≡ true
+open-name : (t : ClaimName) → no_end (second_text (Some t)) ≡ true
 unfolding no_end
-open-name test.First = refl
+open-name (OfTest test.First) = refl
 open-name _ = refl
 
 open-word : (w : Word) → no_end (word_text w) ≡ true
@@ -50,9 +51,9 @@ unfolding no_end
 open-word (word.Evidence k) = open-kind k
 open-word _ = refl
 
-open-second : (name : Option Test) → HasNoEnd (name_text name)
+open-second : (name : Option ClaimName) → HasNoEnd (second_text name)
 open-second None = tt
-open-second (Some t) = open-test (name_text (Some t)) (open-name t)
+open-second (Some t) = open-test (second_text (Some t)) (open-name t)
 
 above : (c k : ℕ) → 11 ≤ k → k ≤ c → c ≢ 10
 above c k a b e = omega (arith, a, b, e)
@@ -78,7 +79,7 @@ open-integers text (z ∷ zs) (first, rest, whole, number, more) =
 open-written : (text : List ℕ) (line : Written) → IsWrittenText text line → HasNoEnd text
 open-written text line t =
     rw t.whole (open-join (words_text line) t.numbers
-    (open-join (word_text line.word) (name_text line.name) (open-test (word_text line.word) (open-word line.word)) (open-second line.name))
+    (open-join (word_text line.word) (second_text line.name) (open-test (word_text line.word) (open-word line.word)) (open-second line.name))
     (open-integers t.numbers line.numbers t.numbers_are))
 
 pub open-line : (place : Place) (text : List ℕ) (line : LineView) → IsLineAt place text line → HasNoEnd text

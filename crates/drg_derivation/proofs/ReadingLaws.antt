@@ -3,15 +3,12 @@ use Rattle.std.proofs.Common.{◌≡◌, ℕ, zero, suc, ◌+◌, ◌-◌, ◌�
 use Rattle.std.specs.Prelude.{◌≢◌}
 use Rattle.std.specs.List.{AllByRecursion}
 use Rattle.std.proofs.Math.Seq.{take-append_seam}
-use Rattle.drg_array.specs.Entries.{Entries, IsArray}
-use Rattle.drg_array.specs.declared.claim.Claim.{Claim as TheClaim}
 use Rattle.drg_derivation.specs.Content.{Content}
 use Rattle.drg_derivation.specs.Faults.{IsStop, IsCause}
 use Rattle.drg_derivation.specs.Integers.{greatest, IsShort, IsPositiveText, IsIntegerText, AreIntegers}
 use Rattle.drg_derivation.specs.Lines.{numbers_of, AreFit, after_line}
 use Rattle.drg_derivation.specs.Places.{Reading, start, HandsOut, HandsOutAll, StopsAfter, IsRefusedAt, StandsAt, AreLinesFrom, IsAmong, IsAtArray, IsAtClaim, next_place}
 use Rattle.drg_derivation.specs.Text.{Begins, HasText, IsDerivationText, context_of, evidence_views, lines_of}
-use Rattle.drg_derivation.specs.Words.{IsClaim}
 use Rattle.drg_derivation.specs.declared.context.Context.{Context}
 use Rattle.drg_derivation.specs.declared.fault.DerivationFault.{DerivationFault}
 use Rattle.drg_derivation.specs.declared.fault.DerivationFault.TheVariants.{BadText, Memory}

@@ -1,18 +1,17 @@
 -- A derivation has one text, and a text one derivation.
-use Rattle.std.proofs.Common.{◌≡◌, ℕ, ◌+◌, ◌≤◌, ◌-◌, List, [], ◌∷◌, ◌++◌, length, take, drop, refl, sym, ap, subst, ◌∙◌, arith, append-nil, length-drop, inl, inr, pos, ℤ}
-use Rattle.std.specs.Prelude.{map, ◌↔◌, ◌≢◌, ◌⊎◌, None, Some, Option, is_some, true, false}
+use Rattle.std.proofs.Common.{◌≡◌, ℕ, ◌+◌, ◌≤◌, ◌-◌, List, [], ◌∷◌, ◌++◌, length, take, drop, refl, sym, ap, subst, ◌∙◌, arith, append-nil, length-drop, pos}
+use Rattle.std.specs.Prelude.{map, ◌↔◌, is_some}
 use Rattle.std.specs.List.{AllByRecursion}
 use Rattle.std.proofs.lemmas.List.{take-append-drop}
-use Rattle.drg_array.specs.Entries.{Entries, IsArray, IsEntry, diameter}
+use Rattle.drg_array.specs.Entries.{Entries, IsArray, IsEntry}
 use Rattle.drg_array.specs.Claims.{indices_of}
 use Rattle.drg_array.specs.declared.claim.Claim.{Claim as TheClaim}
 use Rattle.drg_derivation.specs.Content.{Content}
 use Rattle.drg_derivation.specs.Integers.{greatest, IsShort, integers_text}
-use Rattle.drg_derivation.specs.Laws.{AreLinesOfDerivation}
-use Rattle.drg_derivation.specs.Lines.{numbers_of, AreEvidence, AreShort, after_line}
-use Rattle.drg_derivation.specs.Places.{Reading, start, HandsOut, HandsOutAll, AreLinesFrom, StandsAt, IsLineAt, IsRefusedAt}
+use Rattle.drg_derivation.specs.Lines.{AreEvidence, AreShort, after_line}
+use Rattle.drg_derivation.specs.Places.{Reading, start, HandsOutAll, AreLinesFrom, StandsAt, IsLineAt, IsRefusedAt}
 use Rattle.drg_derivation.specs.Text.{IsDerivationText, HasText, Begins, context_of, derivation_text, evidence_views, lines_of, written_texts}
-use Rattle.drg_derivation.specs.Words.{Written, IsWrittenText, takes_name, array_numbers, words_text, written, written_text}
+use Rattle.drg_derivation.specs.Words.{takes_name, array_numbers, words_text, written, written_text}
 use Rattle.drg_derivation.specs.declared.context.Context.{Context}
 use Rattle.drg_derivation.specs.declared.line.Line.{Line}
 use Rattle.drg_derivation.specs.declared.place.Place.{Place}
@@ -20,7 +19,7 @@ use Rattle.drg_derivation.specs.declared.place.Place.TheVariants as place
 use Rattle.drg_derivation.specs.declared.view.LineView.{LineView}
 use Rattle.drg_derivation.specs.declared.view.LineView.TheVariants.{Version, Array, Claim, Evidence, End}
 use Rattle.drg_derivation.proofs.DecimalLaws.{integers-decimal, decimal-integers}
-use Rattle.drg_derivation.proofs.ReadingLaws.{text-to, read-whole}
+use Rattle.drg_derivation.proofs.ReadingLaws.{text-to}
 use Rattle.drg_derivation.proofs.Prefixes.{one-hands, not-both, one-stop, hands-from, stops-from}
 
 -- ---- the one text

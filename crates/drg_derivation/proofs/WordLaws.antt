@@ -1,22 +1,22 @@
 -- Words are found by their names, and stand before the first space.
 use Rattle.std.proofs.Common.{◌≡◌, ℕ, zero, suc, ◌+◌, ◌<◌, inl, inr, Bool, true, false, List, [], ◌∷◌, ◌++◌, length, drop, get_or, None, Some, refl, sym, ap, subst, ◌∙◌, arith}
-use Rattle.std.specs.Prelude.{Option, is_some, bytes_eq, cond, ◌==◌, codes}
+use Rattle.std.specs.Prelude.{Option, is_some, IfSome, IfNone, bytes_eq, cond, ◌==◌}
 use Rattle.std.proofs.lemmas.Slice.Eq.{bytes_eq-Decides}
-use Rattle.drg_array.specs.Claims.{test_name}
-use Rattle.drg_array.specs.declared.test.Test.{Test}
+use Rattle.drg_array.specs.Claims.{name_text}
+use Rattle.drg_array.specs.declared.claim_name.ClaimName.{ClaimName}
+use Rattle.drg_array.specs.declared.claim_name.ClaimName.TheVariants.{OfTest}
 use Rattle.drg_array.specs.declared.test.Test.TheVariants as test
 use Rattle.drg_derivation.specs.Reading.{after_byte}
-use Rattle.drg_derivation.specs.Words.{word_text, name_text, takes_name}
-use Rattle.drg_array.specs.declared.test.TheConstants.Test.{ALL}
-use Rattle.drg_derivation.specs.WordReading.{named, word_part, rest_part, test_named, test_at, kind_word, kind_named, other_word, word_of, word_named, word_at, name_at}
+use Rattle.drg_derivation.specs.Words.{word_text, second_text, takes_name}
+use Rattle.drg_derivation.specs.WordReading.{named, word_part, rest_part, names, name_named, second_at, kind_word, kind_named, other_word, word_of, word_named, word_at, name_at}
 use Rattle.drg_derivation.specs.declared.kind.Kind.{Kind}
 use Rattle.drg_derivation.specs.declared.kind.Kind.TheVariants as kind
 use Rattle.drg_derivation.specs.declared.kind.TheConstants.{KINDS}
 use Rattle.drg_derivation.specs.declared.word.Word.{Word}
-use Rattle.drg_derivation.specs.declared.word.Word.TheVariants.{Drg, Array, Claim, Evidence, End}
+use Rattle.drg_derivation.specs.declared.word.Word.TheVariants.{Evidence}
 use Rattle.drg_derivation.specs.declared.word.TheConstants.{OTHER_WORDS}
 use Rattle.drg_derivation.proofs.OptionLaws.{chosen, same_some, bound}
-use Rattle.drg_derivation.proofs.IntegerLaws.{after_byte-is, after_byte-same}
+use Rattle.drg_derivation.proofs.IntegerLaws.{after_byte-is}
 
 -- the name at this place isn't the text
 pub named-next : {A : Type 0} (name : A → List ℕ) (xs : List A) (i : ℕ) (y : A) (text t : List ℕ) → i < length xs → t ≡ name (get_or xs i y)
@@ -63,25 +63,25 @@ word_at-takes text w rest e =
     subst (λ (x : Word × List ℕ). text ≡ word_text x.0 ++ x.1) (same_some _ _ b.2) (parts text ∙ ap (λ l. l ++ rest_part text) name)
 
 -- the second word that was read
-pub record TakesName (w : Word) (text : List ℕ) (name : Option Test) (rest : List ℕ) : Type 0 where
-  pub whole : text ≡ name_text name ++ rest
+pub record TakesName (w : Word) (text : List ℕ) (name : Option ClaimName) (rest : List ℕ) : Type 0 where
+  pub whole : text ≡ second_text name ++ rest
   pub named : takes_name w ≡ is_some name
 
-test_at-takes : (w : Word) (text : List ℕ) (name : Option Test) (rest : List ℕ) → takes_name w ≡ true → test_at text ≡ Some (name, rest) → TakesName w text name rest
-unfolding test_at test_named
-test_at-takes w text name rest takes e =
+second_at-takes : (w : Word) (text : List ℕ) (name : Option ClaimName) (rest : List ℕ) → takes_name w ≡ true → second_at text ≡ Some (name, rest) → TakesName w text name rest
+unfolding second_at name_named
+second_at-takes w text name rest takes e =
     let after = bound (after_byte 32 text) _ _ e in
-    let t = bound (test_named (word_part after.0)) _ _ after.2 in
-    let is = named-is test_name ALL (word_part after.0) t.0 t.1 in
-    let whole : text ≡ 32 ∷ (test_name t.0 ++ rest_part after.0) = after_byte-is 32 text after.0 after.1 ∙ ap (λ l. 32 ∷ l) (parts after.0 ∙ ap (λ l. l ++ rest_part after.0) is) in
-    subst (λ (x : Option Test × List ℕ). TakesName w text x.0 x.1) (same_some _ _ t.2) (record { whole = whole; named = takes })
+    let t = bound (name_named (word_part after.0)) _ _ after.2 in
+    let is = named-is name_text names (word_part after.0) t.0 t.1 in
+    let whole : text ≡ 32 ∷ (name_text t.0 ++ rest_part after.0) = after_byte-is 32 text after.0 after.1 ∙ ap (λ l. 32 ∷ l) (parts after.0 ∙ ap (λ l. l ++ rest_part after.0) is) in
+    subst (λ (x : Option ClaimName × List ℕ). TakesName w text x.0 x.1) (same_some _ _ t.2) (record { whole = whole; named = takes })
 
-pub name_at-takes : (w : Word) (text : List ℕ) (name : Option Test) (rest : List ℕ) → name_at w text ≡ Some (name, rest) → TakesName w text name rest
+pub name_at-takes : (w : Word) (text : List ℕ) (name : Option ClaimName) (rest : List ℕ) → name_at w text ≡ Some (name, rest) → TakesName w text name rest
 unfolding name_at
 name_at-takes w text name rest e =
     elim (chosen (takes_name w) _ _ _ e) [
-      | inl takes ↦ test_at-takes w text name rest takes.0 takes.1
-      | inr none ↦ subst (λ (x : Option Test × List ℕ). TakesName w text x.0 x.1) (same_some _ _ none.1) (record { whole = refl; named = none.0 })
+      | inl takes ↦ second_at-takes w text name rest takes.0 takes.1
+      | inr none ↦ subst (λ (x : Option ClaimName × List ℕ). TakesName w text x.0 x.1) (same_some _ _ none.1) (record { whole = refl; named = none.0 })
     ]
 
 -- nothing, or a space in front
@@ -107,12 +107,27 @@ unfolding word_at word_named kind_named other_word
 word_at-again (Evidence k) rest s = kind-again k rest (no_word rest s) (all_rest rest s)
 word_at-again _ rest s = rw (no_word rest s, all_rest rest s) refl
 
-test-again : (t : Test) (rest : List ℕ) → word_part rest ≡ [] → rest_part rest ≡ rest → test_at (name_text (Some t) ++ rest) ≡ Some (Some t, rest)
-unfolding test_at test_named
-test-again test.First rest a b = rw (a, b) refl
-test-again _ rest a b = rw (a, b) refl
+second-again : (name : ClaimName) (rest : List ℕ) → word_part rest ≡ [] → rest_part rest ≡ rest → second_at (second_text (Some name) ++ rest) ≡ Some (Some name, rest)
+unfolding second_at name_named
+second-again (OfTest test.First) rest a b = rw (a, b) refl
+second-again _ rest a b = rw (a, b) refl
 
-pub name_at-again : (w : Word) (name : Option Test) (rest : List ℕ) → takes_name w ≡ is_some name → IsSpaced rest → name_at w (name_text name ++ rest) ≡ Some (name, rest)
+pub name_at-again : (w : Word) (name : Option ClaimName) (rest : List ℕ) → takes_name w ≡ is_some name → IsSpaced rest → name_at w (second_text name ++ rest) ≡ Some (name, rest)
 unfolding name_at
 name_at-again w None rest takes s = rw takes refl
-name_at-again w (Some t) rest takes s = rw takes (test-again t rest (no_word rest s) (all_rest rest s))
+name_at-again w (Some name) rest takes s = rw takes (second-again name rest (no_word rest s) (all_rest rest s))
+
+name-again : (name : ClaimName) → name_named (name_text name) ≡ Some name
+unfolding name_named
+name-again (OfTest test.First) = refl
+name-again _ = refl
+
+-- what tells the names of claims is that of the definition
+pub name_named-by : (o : Option ClaimName) (text : List ℕ) → IfSome o (λ name. name_text name ≡ text) → IfNone o ((name : ClaimName) → name_text name ≡ text → ⊥) → o ≡ name_named text
+unfolding name_named
+name_named-by (Some name) text is none = sym (name-again name) ∙ ap name_named is
+name_named-by None text is none = of (name_named text) refl
+  where
+    of : (o : Option ClaimName) → name_named text ≡ o → None ≡ name_named text
+    of None e = sym e
+    of (Some name) e = absurd (none name (sym (named-is name_text names text name e)))

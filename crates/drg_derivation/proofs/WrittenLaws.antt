@@ -1,10 +1,10 @@
 -- A line is read exactly where its text is words and numbers.
 use Rattle.std.proofs.Common.{◌≡◌, ℕ, List, [], ◌∷◌, ◌++◌, None, Some, refl, sym, ap, subst, ◌∙◌, ℤ, append_assoc}
 use Rattle.std.specs.Prelude.{Option}
-use Rattle.drg_array.specs.declared.test.Test.{Test}
+use Rattle.drg_array.specs.declared.claim_name.ClaimName.{ClaimName}
 use Rattle.drg_derivation.specs.Integers.{AreIntegers}
 use Rattle.drg_derivation.specs.Reading.{integers_of}
-use Rattle.drg_derivation.specs.Words.{Written, IsWrittenText, word_text, name_text, words_text}
+use Rattle.drg_derivation.specs.Words.{Written, IsWrittenText, word_text, second_text}
 use Rattle.drg_derivation.specs.WordReading.{written_at, word_at, name_at}
 use Rattle.drg_derivation.proofs.OptionLaws.{same_some, bound}
 use Rattle.drg_derivation.proofs.IntegerLaws.{integers_of-takes, integers_of-again}
@@ -14,7 +14,7 @@ spaced-numbers : (text : List ℕ) (zs : List ℤ) → AreIntegers text zs → I
 spaced-numbers text [] e = rw e tt
 spaced-numbers text (z ∷ zs) (first, rest, whole, number, more) = rw whole refl
 
-spaced-name : (name : Option Test) (text : List ℕ) → IsSpaced text → IsSpaced (name_text name ++ text)
+spaced-name : (name : Option ClaimName) (text : List ℕ) → IsSpaced text → IsSpaced (second_text name ++ text)
 spaced-name None text s = s
 spaced-name (Some test) text s = refl
 
@@ -25,8 +25,8 @@ written_at-takes text line e =
     let m = bound (name_at w.0.0 w.0.1) _ _ w.2 in
     let n = bound (integers_of m.0.1) _ _ m.2 in
     let name = name_at-takes w.0.0 w.0.1 m.0.0 m.0.1 m.1 in
-    let whole : text ≡ (word_text w.0.0 ++ name_text m.0.0) ++ m.0.1 =
-    word_at-takes text w.0.0 w.0.1 w.1 ∙ (ap (λ l. word_text w.0.0 ++ l) name.whole ∙ sym (append_assoc (word_text w.0.0) (name_text m.0.0) m.0.1)) in
+    let whole : text ≡ (word_text w.0.0 ++ second_text m.0.0) ++ m.0.1 =
+    word_at-takes text w.0.0 w.0.1 w.1 ∙ (ap (λ l. word_text w.0.0 ++ l) name.whole ∙ sym (append_assoc (word_text w.0.0) (second_text m.0.0) m.0.1)) in
     let t : IsWrittenText text (record { word = w.0.0; name = m.0.0; numbers = n.0 }) =
     record { numbers = m.0.1; whole = whole; named = name.named; numbers_are = integers_of-takes m.0.1 n.0 n.1 } in
     subst (IsWrittenText text) (same_some _ line n.2) t
@@ -35,9 +35,9 @@ pub written_at-again : (text : List ℕ) (line : Written) → IsWrittenText text
 unfolding written_at
 written_at-again text line t =
     let spaced = spaced-numbers t.numbers line.numbers t.numbers_are in
-    let whole : text ≡ word_text line.word ++ (name_text line.name ++ t.numbers) =
-    t.whole ∙ append_assoc (word_text line.word) (name_text line.name) t.numbers in
-    let word = word_at-again line.word (name_text line.name ++ t.numbers) (spaced-name line.name t.numbers spaced) in
+    let whole : text ≡ word_text line.word ++ (second_text line.name ++ t.numbers) =
+    t.whole ∙ append_assoc (word_text line.word) (second_text line.name) t.numbers in
+    let word = word_at-again line.word (second_text line.name ++ t.numbers) (spaced-name line.name t.numbers spaced) in
     let name = name_at-again line.word line.name t.numbers t.named spaced in
     rw (whole, word) (rw name (rw (integers_of-again t.numbers line.numbers t.numbers_are) refl))
 

@@ -9,5 +9,6 @@ pub mod LineReading
 pub mod Places
 pub mod Content
 pub mod Text
+pub mod Writing
 pub mod Faults
 pub mod Laws

@@ -34,6 +34,10 @@ pub record HasText (δ : Content) : Type 0 where
   pub evidence : AreEvidence (context_of δ.array) δ.lines
   pub short : AreShort δ.lines
 
+-- a line and its line end
+abbrev pub line_text : LineView → List ℕ
+line_text line = written_text (written line) ++ 10 ∷ []
+
 abbrev pub written_texts : List LineView → List ℕ
 written_texts [] = []
 written_texts (line ∷ lines) = written_text (written line) ++ 10 ∷ written_texts lines

@@ -1,8 +1,8 @@
 -- Reading the words and the numbers of a line from left to right.
-use Rattle.std.specs.Prelude.{ℕ, ◌==◌, if◌then◌else◌, ℤ, List, [], ◌∷◌, Option, None, Some, bytes_eq}
-use Rattle.std.specs.Option.{option_map}
-use Rattle.drg_array.specs.Claims.{test_name}
-use Rattle.drg_array.specs.declared.test.Test.{Test}
+use Rattle.std.specs.Prelude.{ℕ, ◌==◌, if◌then◌else◌, List, [], ◌∷◌, map, Option, None, Some, bytes_eq}
+use Rattle.drg_array.specs.Claims.{name_text}
+use Rattle.drg_array.specs.declared.claim_name.ClaimName.{ClaimName}
+use Rattle.drg_array.specs.declared.claim_name.ClaimName.TheVariants.{OfTest}
 use Rattle.drg_array.specs.declared.test.TheConstants.Test.{ALL}
 use Rattle.drg_derivation.specs.Reading.{◌>>=◌, after_byte, integers_of}
 use Rattle.drg_derivation.specs.Shapes.{form_of}
@@ -10,7 +10,7 @@ use Rattle.drg_derivation.specs.Words.{Written, word_text, takes_name}
 use Rattle.drg_derivation.specs.declared.kind.Kind.{Kind}
 use Rattle.drg_derivation.specs.declared.kind.TheConstants.{KINDS}
 use Rattle.drg_derivation.specs.declared.word.Word.{Word}
-use Rattle.drg_derivation.specs.declared.word.Word.TheVariants.{Drg, Array, Claim, Evidence, End}
+use Rattle.drg_derivation.specs.declared.word.Word.TheVariants.{Evidence}
 use Rattle.drg_derivation.specs.declared.word.TheConstants.{OTHER_WORDS}
 
 -- the bytes before the first space, and those from it on
@@ -27,8 +27,12 @@ abbrev pub named : {A : Type 0} → (A → List ℕ) → List A → List ℕ →
 named name [] text = None
 named name (x ∷ xs) text = if bytes_eq text (name x) then Some x else named name xs text
 
-unfoldable pub test_named : List ℕ → Option Test
-test_named text = named test_name ALL text
+-- the names of claims
+abbrev pub names : List ClaimName
+names = map OfTest ALL
+
+unfoldable pub name_named : List ℕ → Option ClaimName
+name_named text = named name_text names text
 
 abbrev pub kind_word : Kind → List ℕ
 kind_word kind = (form_of kind).word
@@ -52,12 +56,12 @@ unfoldable pub word_at : List ℕ → Option (Word × List ℕ)
 word_at text = word_named (word_part text) >>= λ word. Some (word, rest_part text)
 
 -- the name of a claim after a space, and what follows it
-unfoldable pub test_at : List ℕ → Option (Option Test × List ℕ)
-test_at rest = after_byte 32 rest >>= λ after. test_named (word_part after) >>= λ test. Some (Some test, rest_part after)
+unfoldable pub second_at : List ℕ → Option (Option ClaimName × List ℕ)
+second_at rest = after_byte 32 rest >>= λ after. name_named (word_part after) >>= λ name. Some (Some name, rest_part after)
 
 -- the second word, where the first takes one, and what follows it
-unfoldable pub name_at : Word → List ℕ → Option (Option Test × List ℕ)
-name_at word rest = if takes_name word then test_at rest else Some (None, rest)
+unfoldable pub name_at : Word → List ℕ → Option (Option ClaimName × List ℕ)
+name_at word rest = if takes_name word then second_at rest else Some (None, rest)
 
 -- the words and the numbers of a line
 unfoldable pub written_at : List ℕ → Option Written

@@ -2,9 +2,9 @@
 use Rattle.std.specs.Prelude.{◌≡◌, ◌≤◌, ℕ, ℤ, pos, Bool, true, false, Option, None, Some, is_some, List, [], ◌∷◌, ◌++◌, map, codes}
 use Rattle.std.specs.List.{AllByRecursion}
 use Rattle.drg_array.specs.Entries.{Entries, diameter}
-use Rattle.drg_array.specs.Claims.{test_name, test_of, indices_of}
+use Rattle.drg_array.specs.Claims.{name_text, name_of, indices_of}
 use Rattle.drg_array.specs.declared.claim.Claim.{Claim as TheClaim}
-use Rattle.drg_array.specs.declared.test.Test.{Test}
+use Rattle.drg_array.specs.declared.claim_name.ClaimName.{ClaimName}
 use Rattle.drg_derivation.specs.Integers.{AreIntegers, integers_text}
 use Rattle.drg_derivation.specs.Lines.{kind_of, numbers_of}
 use Rattle.drg_derivation.specs.Shapes.{form_of}
@@ -15,7 +15,7 @@ use Rattle.drg_derivation.specs.declared.view.LineView.TheVariants as view
 
 pub record Written : Type 0 where
   pub word : Word
-  pub name : Option Test
+  pub name : Option ClaimName
   pub numbers : List ℤ
 
 abbrev pub word_text : Word → List ℕ
@@ -31,15 +31,15 @@ takes_name Claim = true
 takes_name _ = false
 
 -- a second word, with a space before it
-abbrev pub name_text : Option Test → List ℕ
-name_text None = []
-name_text (Some test) = 32 ∷ test_name test
+abbrev pub second_text : Option ClaimName → List ℕ
+second_text None = []
+second_text (Some name) = 32 ∷ name_text name
 
 abbrev pub words_text : Written → List ℕ
-words_text line = word_text line.word ++ name_text line.name
+words_text line = word_text line.word ++ second_text line.name
 
-abbrev pub claim_words : Test → List ℕ
-claim_words test = codes "claim" ++ 32 ∷ test_name test
+abbrev pub claim_words : ClaimName → List ℕ
+claim_words name = codes "claim" ++ 32 ∷ name_text name
 
 -- the text, without its line end, is the words and the numbers
 pub record IsWrittenText (text : List ℕ) (line : Written) : Type 0 where
@@ -59,7 +59,7 @@ array_numbers a = pos (diameter a) ∷ map pos (a.b ++ a.c)
 abbrev pub written : LineView → Written
 written (view.Version version) = record { word = Drg; name = None; numbers = pos version ∷ [] }
 written (view.Array array) = record { word = Array; name = None; numbers = array_numbers array }
-written (view.Claim claim) = record { word = Claim; name = Some (test_of claim); numbers = map pos (indices_of claim) }
+written (view.Claim claim) = record { word = Claim; name = Some (name_of claim); numbers = map pos (indices_of claim) }
 written (view.Evidence line) = record { word = Evidence (kind_of line); name = None; numbers = numbers_of line }
 written view.End = record { word = End; name = None; numbers = [] }
 

@@ -13,8 +13,8 @@ use std::marker::Model;
 /// The version of the text that a derivation is written in.
 pub const FIRST_VERSION: u8 = 1;
 
-/// An array, the claim that it fails, and the lines that show it. It always has a text: each line has
-/// as many numbers as its place asks for, and each number can be written.
+/// An array, the claim that it fails, and the lines that show it. It always has a text: each line
+/// has as many numbers as its place asks for, and each number can be written.
 #[derive(Debug, Drop)]
 pub struct Derivation {
     pub array: Array,
@@ -30,14 +30,17 @@ impl Model for Derivation {
 
     ghost view = { λ δ. record { array = δ.array; claim = δ.claim; lines = δ.lines.items } };
 
-    ghost invariant = { λ δ. HasText (record { array = δ.array; claim = δ.claim; lines = δ.lines.items }) };
+    ghost invariant = { λ δ.
+        HasText (record { array = δ.array; claim = δ.claim; lines = δ.lines.items }) };
 }
 
 impl Derivation {
     /// The derivation of these parts, where it has a text. Takes no memory.
     pub fn make(array: Array, claim: Claim, lines: Vec<Line>) -> Option<Derivation>
-        ensures some { IsSome result ↔ HasText (record { array = array; claim = claim; lines = lines.items }) }
-        ensures parts { IfSome result (λ δ. δ ≡ record { array = array; claim = claim; lines = lines.items }) }
+        ensures some { IsSome result
+            ↔ HasText (record { array = array; claim = claim; lines = lines.items }) }
+        ensures parts { IfSome result
+            (λ δ. δ ≡ record { array = array; claim = claim; lines = lines.items }) }
     {
         show_indices_are_bytes(&claim);
         let context = Context::start(FIRST_VERSION, array.d() as u8);

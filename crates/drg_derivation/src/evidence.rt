@@ -88,7 +88,8 @@ impl<'a> EvidenceView<'a> {
 fn take_leading(numbers: &mut LineNumbers, len: usize) -> [i128; MAX_LEADING]
     requires few { len ≤ 5 }
     requires within { len ≤ length numbers.old }
-    ensures leading { (i : ℕ) → slice_index_or result i (pos 0) ≡ slice_index_or (take len numbers.old) i (pos 0) }
+    ensures leading { (i : ℕ) → slice_index_or result i (pos 0)
+        ≡ slice_index_or (take len numbers.old) i (pos 0) }
     ensures rest { numbers.new ≡ drop len numbers.old }
 {
     let mut leading = [0; MAX_LEADING];

@@ -3,20 +3,20 @@
 ghost use Rattle.std.specs.Prelude.{◌≡◌, ◌≤◌, length};
 ghost use Rattle.std.specs.Option.{option_map};
 ghost use Rattle.drg_array.specs.Claims.{indices_of};
-ghost use Rattle.drg_derivation.specs.Header.{array_from, array_read, claim_made, claim_of_one, claim_of_three, claim_of_two, claim_read, natural as natural_of, naturals as naturals_of, version_named as version_named_of, version_read};
+ghost use Rattle.drg_derivation.specs.Header.{array_from, array_read, claim_made, claim_read, natural as natural_of, naturals as naturals_of, version_named as version_named_of, version_read};
 ghost use Rattle.drg_derivation.specs.Words.{IsClaim};
 
 use crate::word::Word;
 use crate::written::WrittenLine;
 use arrayvec::ArrayVec;
-use drg_array::{Array, Claim, MAX_DIAMETER, Test};
+use drg_array::{Array, Claim, ClaimName, MAX_DIAMETER};
 use num_traits::cast;
 
 /// The latest version of the text.
 const LATEST_VERSION: u8 = 1;
 
 /// The most numbers of an array's line.
-const MAX_NUMBERS: usize = 2 * MAX_DIAMETER + 1;
+pub const MAX_NUMBERS: usize = 2 * MAX_DIAMETER + 1;
 
 /// The most indices of a claim.
 const MAX_INDICES: usize = 3;
@@ -82,11 +82,11 @@ pub fn claim_of(line: &WrittenLine) -> Option<Claim>
     let Word::Claim = line.word() else {
         return None;
     };
-    let test = line.name()?;
+    let name = line.name()?;
     if line.count() > MAX_INDICES {
         return None;
     }
-    make_claim(test, &bytes(line)?)
+    claim_with(name, &bytes(line)?)
 }
 
 /// The numbers of the line, where each is at least 0 and below 2^16.
@@ -127,73 +127,11 @@ fn byte(number: i128) -> Option<u8>
     cast(number)
 }
 
-/// The claim of this test with these indices.
-fn make_claim(test: Test, indices: &[u8]) -> Option<Claim>
-    ensures { result ≡ claim_made test indices.now }
+/// The claim of this name with these indices.
+fn claim_with(name: ClaimName, indices: &[u8]) -> Option<Claim>
+    ensures { result ≡ claim_made name indices.now }
 {
-    match indices.len() {
-        0 => (test == Test::First).then_some(Claim::First),
-        1 => claim_with_one(test, indices[0]),
-        2 => claim_with_two(test, indices[0], indices[1]),
-        3 => claim_with_three(test, indices[0], indices[1], indices[2]),
-        _ => None,
-    }
-}
-
-/// The claim of a test with one index.
-fn claim_with_one(test: Test, i: u8) -> Option<Claim>
-    ensures { result ≡ claim_of_one test i }
-{
-    match test {
-        Test::Degree => Some(Claim::Degree { i }),
-        Test::Order => Some(Claim::Order { i }),
-        Test::Size => Some(Claim::Size { i }),
-        Test::Handshake => Some(Claim::Handshake { i }),
-        Test::Triangles => Some(Claim::Triangles { i }),
-        Test::Mult => Some(Claim::Mult { i }),
-        _ => None,
-    }
-}
-
-/// The claim of a test with two indices.
-fn claim_with_two(test: Test, i: u8, j: u8) -> Option<Claim>
-    ensures { result ≡ claim_of_two test i j }
-{
-    match test {
-        Test::Cross => Some(Claim::Cross { i, j }),
-        Test::Induced => Some(Claim::Induced { i, j }),
-        Test::Absolute => Some(Claim::Absolute { i, j }),
-        _ => None,
-    }
-}
-
-/// The claim of a test with three indices, in the order in which they are written.
-fn claim_with_three(test: Test, first: u8, second: u8, third: u8) -> Option<Claim>
-    ensures { result ≡ claim_of_three test first second third }
-{
-    match test {
-        Test::Intersect => Some(Claim::Intersect {
-            h: first,
-            i: second,
-            j: third,
-        }),
-        Test::Krein => Some(Claim::Krein {
-            i: first,
-            j: second,
-            h: third,
-        }),
-        Test::Triple => Some(Claim::Triple {
-            u: first,
-            v: second,
-            w: third,
-        }),
-        Test::Ktriple => Some(Claim::Ktriple {
-            u: first,
-            v: second,
-            w: third,
-        }),
-        _ => None,
-    }
+    Claim::of(name, indices)
 }
 
 /// The indices of a claim, in the order in which they are written.

@@ -109,7 +109,8 @@ impl Kind {
 
 /// A row of the table of shapes.
 fn row(word: &'static str, since: u8, leading: usize, tail: Tail) -> Shape
-    ensures { form result ≡ record { word = word.now; since = since; leading = leading; tail = tail } }
+    ensures { form result
+        ≡ record { word = word.now; since = since; leading = leading; tail = tail } }
 {
     Shape {
         word,

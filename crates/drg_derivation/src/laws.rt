@@ -25,9 +25,9 @@ pub fn refusal_law()
     ensures one { OneRefusal }
 {}
 
-/// What the line reader does is determined by the bytes: it hands out a line or refuses one. It hands out
-/// the lines of the derivation with which the bytes begin, and lines up to the end are those of one. Where
-/// there is none, it refuses the line that [`crate::read`] refuses.
+/// What the line reader does is determined by the bytes: it hands out a line or refuses one. It
+/// hands out the lines of the derivation with which the bytes begin, and lines up to the end are
+/// those of one. Where there is none, it refuses the line that [`crate::read`] refuses.
 pub fn line_reader_law()
     ensures lines { SameLines }
     ensures derivation { LinesOfDerivation }

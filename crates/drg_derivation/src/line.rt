@@ -195,7 +195,8 @@ impl Parts<'_> {
 
     /// Whether each number can be written: none is below -(2^127-1).
     pub fn is_short(&self) -> bool
-        ensures { IsTrue result ↔ AllByRecursion IsShort (self.now.leading.items ++ self.now.tail.now) }
+        ensures { IsTrue result
+            ↔ AllByRecursion IsShort (self.now.leading.items ++ self.now.tail.now) }
     {
         are_short(&self.leading) && are_short(self.tail)
     }

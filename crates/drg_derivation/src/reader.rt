@@ -40,9 +40,11 @@ impl<'a> LineReader<'a> {
     }
 
     /// The next line, or None past the `end` line. Where the bytes don't go on with a line that
-    /// stands at its place, the number of that line, counted from 1, and so again at each further call.
+    /// stands at its place, the number of that line, counted from 1, and so again at each further
+    /// call.
     pub fn next(&mut self) -> Result<Option<LineView<'a>>, u64>
-        ensures line { IfOk result (λ found. IfSome found (λ line. HandsOut self.old line self.new)) }
+        ensures line { IfOk result
+            (λ found. IfSome found (λ line. HandsOut self.old line self.new)) }
         ensures over { IfOk result (λ found. IfNone found (self.old.place ≡ Place.After)) }
         ensures still { IfOk result (λ found. IfNone found (self.new ≡ self.old)) }
         ensures refused { IfErr result (λ number. number ≡ suc self.old.line) }

@@ -13,8 +13,8 @@ use crate::{Derivation, DerivationFault, EvidenceView, Line, LineReader, LineVie
 use drg_array::{Array, Claim};
 use std::alloc::{AllocError, Global};
 
-/// Reads a derivation up to and with its `end` line, and says how many bytes it has. What follows isn't
-/// looked at.
+/// Reads a derivation up to and with its `end` line, and says how many bytes it has. What follows
+/// isn't looked at.
 pub fn read(alloc: Global, bytes: &[u8]) -> Result<(Derivation, usize), DerivationFault>
     ensures ok { IfOk result (λ x. Begins bytes.now x.1 x.0) }
     ensures refused { IfErr result (IsCause bytes.now) }
@@ -73,7 +73,8 @@ fn read_claim(reader: &mut LineReader) -> Result<Claim, DerivationFault>
 /// The evidence lines up to `end`.
 fn read_lines(alloc: Global, reader: &mut LineReader) -> Result<Vec<Line>, DerivationFault>
     requires { IsAmong reader.old.place }
-    ensures ok { IfOk result (λ lines. HandsOutAll reader.old (evidence_views lines.items ++ EndView ∷ []) reader.new) }
+    ensures ok { IfOk result (λ lines.
+        HandsOutAll reader.old (evidence_views lines.items ++ EndView ∷ []) reader.new) }
     ensures refused { IfErr result (IsStop reader.old) }
 {
     let mut lines = Vec::with_capacity(alloc, lines_before_end(reader.rest()))?;

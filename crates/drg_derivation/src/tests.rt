@@ -1,4 +1,7 @@
-use crate::{Derivation, DerivationFault, Line, LineReader, NumberList, read};
+use crate::{
+    Context, Derivation, DerivationFault, Kind, Line, LineReader, LineView, NumberList, Place,
+    line_at, read,
+};
 use drg_array::{Array, Claim};
 use std::alloc::Global;
 use std::process::Abort;
@@ -239,6 +242,51 @@ fn derivations_that_have_a_text(rt: HostRuntime) -> Result<(), Fail> {
     Ok(())
 }
 
+/// The lines `low 1 1 1 v 0` for v from 0 to 19,999.
+fn many_lines(alloc: Global) -> Result<Vec<Line>, Fail> {
+    let mut lines = Vec::new(alloc);
+    for v in 0u16..20_000 {
+        lines.push(Line::Low {
+            r: 1,
+            s: 1,
+            t: 1,
+            v: i128::from(v),
+            n: 0,
+        })?;
+    }
+    Ok(lines)
+}
+
+#[test]
+fn a_derivation_of_twenty_thousand_lines(rt: HostRuntime) -> Result<(), Fail> {
+    let alloc = rt.alloc();
+    let array = Array::make(&[3], &[1]).ok_or("no array")?;
+    let derivation = Derivation::make(array, Claim::First, many_lines(alloc)?).ok_or("no text")?;
+    let mut text = Vec::new(alloc);
+    derivation.write_text(&mut text)?;
+    // `low 1 1 1 v 0` with 88,890 digits of v in all, and 34 bytes in the other four lines.
+    assert_eq!(rt; text.len(), 20_000 * 13 + 88_890 + 34);
+    let (again, used) = read(alloc, &text)?;
+    assert_eq!(rt; used, text.len());
+    assert_eq!(rt; again.lines.len(), 20_000);
+    let mut copy = Vec::new(alloc);
+    again.write_text(&mut copy)?;
+    assert!(rt; copy.as_slice() == text.as_slice());
+    let mut reader = LineReader::new(&text);
+    for place in 0u16..20_004 {
+        match reader.next() {
+            Ok(Some(LineView::Evidence { line })) => {
+                assert_eq!(rt; line.kind(), Kind::Low);
+                assert_eq!(rt; line.numbers().nth(3), Some(i128::from(place) - 3));
+            }
+            Ok(Some(_)) => assert!(rt; place < 3 || place == 20_003),
+            _ => assert!(rt; false, "a line is refused"),
+        }
+    }
+    assert!(rt; matches!(reader.next(), Ok(None)));
+    Ok(())
+}
+
 #[test]
 fn a_line_of_forty_thousand_numbers(rt: HostRuntime) -> Result<(), Fail> {
     let alloc = rt.alloc();
@@ -298,4 +346,37 @@ fn words_and_numbers_of_lines(rt: HostRuntime) {
             _ => assert!(rt; false, "no line"),
         }
     }
+}
+
+#[test]
+fn an_evidence_line_from_left_to_right(rt: HostRuntime) -> Result<(), Fail> {
+    let place = Place::Evidence {
+        context: Context {
+            version: 1,
+            d: 2,
+            width: 4,
+        },
+    };
+    let (view, next) = line_at(place, b"theta 1 -1 2 1 2").ok_or("no line")?;
+    assert_eq!(rt; next, place);
+    match view {
+        LineView::Evidence { line } => {
+            assert_eq!(rt; line.kind(), Kind::Theta);
+            let mut numbers = line.numbers();
+            for number in [1, -1, 2, 1, 2] {
+                assert_eq!(rt; numbers.next(), Some(number));
+            }
+            assert!(rt; numbers.next().is_none());
+            match &line.to_line(rt.alloc())? {
+                Line::Theta { i, values } => {
+                    assert_eq!(rt; *i, 1);
+                    assert_eq!(rt; values.as_slice(), [-1, 2, 1, 2].as_slice());
+                }
+                _ => assert!(rt; false, "another kind"),
+            }
+        }
+        _ => assert!(rt; false, "another line"),
+    }
+    assert!(rt; line_at(place, b"theta 1 -1 2").is_none());
+    Ok(())
 }

@@ -14,7 +14,7 @@ pub enum LineView<'a> {
     Version { version: u8 },
     /// `array`, the diameter and the entries.
     Array { array: Array },
-    /// `claim`, the name of a test and the indices.
+    /// `claim`, the name of a claim and its indices.
     Claim { claim: Claim },
     /// The word of an evidence line and its numbers.
     Evidence { line: EvidenceView<'a> },
@@ -30,10 +30,7 @@ impl LineView<'_> {
         match self {
             LineView::Version { .. } => "drg",
             LineView::Array { .. } => "array",
-            LineView::Claim { claim } => {
-                let ClaimName::OfTest(test) = claim.name();
-                claim_words(test)
-            }
+            LineView::Claim { claim } => claim_words(claim.name()),
             LineView::Evidence { line } => line.kind().name(),
             LineView::End => "end",
         }
@@ -82,24 +79,24 @@ pub(crate) fn array_number(array: &Array, i: usize) -> u16
     }
 }
 
-/// `claim`, a space and the test's name.
-fn claim_words(test: Test) -> &'static str
-    ensures { result.now ≡ claim_words_of test }
+/// `claim`, a space and the name.
+fn claim_words(name: ClaimName) -> &'static str
+    ensures { result.now ≡ claim_words_of name }
 {
-    match test {
-        Test::First => "claim first",
-        Test::Degree => "claim degree",
-        Test::Order => "claim order",
-        Test::Cross => "claim cross",
-        Test::Size => "claim size",
-        Test::Intersect => "claim intersect",
-        Test::Handshake => "claim handshake",
-        Test::Induced => "claim induced",
-        Test::Triangles => "claim triangles",
-        Test::Mult => "claim mult",
-        Test::Krein => "claim krein",
-        Test::Absolute => "claim absolute",
-        Test::Triple => "claim triple",
-        Test::Ktriple => "claim ktriple",
+    match name {
+        ClaimName::OfTest(Test::First) => "claim first",
+        ClaimName::OfTest(Test::Degree) => "claim degree",
+        ClaimName::OfTest(Test::Order) => "claim order",
+        ClaimName::OfTest(Test::Cross) => "claim cross",
+        ClaimName::OfTest(Test::Size) => "claim size",
+        ClaimName::OfTest(Test::Intersect) => "claim intersect",
+        ClaimName::OfTest(Test::Handshake) => "claim handshake",
+        ClaimName::OfTest(Test::Induced) => "claim induced",
+        ClaimName::OfTest(Test::Triangles) => "claim triangles",
+        ClaimName::OfTest(Test::Mult) => "claim mult",
+        ClaimName::OfTest(Test::Krein) => "claim krein",
+        ClaimName::OfTest(Test::Absolute) => "claim absolute",
+        ClaimName::OfTest(Test::Triple) => "claim triple",
+        ClaimName::OfTest(Test::Ktriple) => "claim ktriple",
     }
 }

@@ -2,13 +2,13 @@
 
 ghost use Rattle.std.specs.Prelude.{◌≡◌};
 ghost use Rattle.drg_derivation.specs.Reading.{seen};
-ghost use Rattle.drg_derivation.specs.WordReading.{kind_named as kind_named_of, name_at, other_word as other_word_of, rest_part, test_named as test_named_of, word_at as word_at_of, word_named as word_named_of, word_part};
+ghost use Rattle.drg_derivation.specs.WordReading.{kind_named as kind_named_of, name_at, name_named as name_named_of, other_word as other_word_of, rest_part, word_at as word_at_of, word_named as word_named_of, word_part};
 
 use crate::Kind;
 use crate::integers::after_byte;
 use crate::kind::KINDS;
 use crate::word::{OTHER_WORDS, Word};
-use drg_array::Test;
+use drg_array::ClaimName;
 
 /// The bytes before the first space, and those from it on.
 fn split_word(text: &[u8]) -> (&[u8], &[u8])
@@ -25,17 +25,11 @@ fn split_word(text: &[u8]) -> (&[u8], &[u8])
     text.split_at(len)
 }
 
-/// The test of this name.
-#[tactic(auto, unfolding(crate::specs::WordReading::test_named))]
-fn test_named(name: &[u8]) -> Option<Test>
-    ensures { result ≡ test_named_of name.now }
+/// The name of a claim that these bytes are.
+fn name_named(text: &[u8]) -> Option<ClaimName>
+    ensures { result ≡ name_named_of text.now }
 {
-    'tests: for test in &Test::ALL {
-        if name == test.name().as_bytes() {
-            return Some(*test);
-        }
-    }
-    None
+    ClaimName::read(text)
 }
 
 /// The kind of evidence line with this word.
@@ -76,16 +70,16 @@ fn word_named(name: &[u8]) -> Option<Word>
 }
 
 /// The name of a claim after a space, where one is taken, and what follows it.
-#[tactic(auto, unfolding(crate::specs::WordReading::name_at, crate::specs::WordReading::test_at))]
-pub fn read_name(word: Word, rest: &[u8]) -> Option<(Option<Test>, &[u8])>
+#[tactic(auto, unfolding(crate::specs::WordReading::name_at, crate::specs::WordReading::second_at))]
+pub fn read_name(word: Word, rest: &[u8]) -> Option<(Option<ClaimName>, &[u8])>
     ensures { seen result ≡ name_at word rest.now }
 {
     if !word.takes_name() {
         return Some((None, rest));
     }
     let (name, rest) = split_word(after_byte(rest, b' ')?);
-    let test = test_named(name)?;
-    Some((Some(test), rest))
+    let name = name_named(name)?;
+    Some((Some(name), rest))
 }
 
 /// The word at the front, and what follows it.

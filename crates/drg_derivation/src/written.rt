@@ -8,14 +8,15 @@ ghost use Rattle.drg_derivation.specs.WordReading.{written_at};
 use crate::integers::{LineNumbers, count_integers};
 use crate::word::Word;
 use crate::word_at::{read_name, read_word};
-use drg_array::Test;
+use drg_array::ClaimName;
 use std::marker::Model;
 
-/// A line over lent bytes, whose words and numbers were looked at, but not whether they go together.
+/// A line over lent bytes, whose words and numbers were looked at, but not whether they go
+/// together.
 #[derive(Debug, Drop)]
 pub struct WrittenLine<'a> {
     word: Word,
-    name: Option<Test>,
+    name: Option<ClaimName>,
     text: &'a [u8],
     count: usize,
 }
@@ -26,7 +27,8 @@ impl<'a> Model for WrittenLine<'a> {
 
     ghost Value = { Written };
 
-    ghost view = { λ w. record { word = w.word; name = w.name; numbers = integers_in w.text.now } };
+    ghost view = { λ w.
+        record { word = w.word; name = w.name; numbers = integers_in w.text.now } };
 
     ghost invariant = { λ w. IsCounted w.text.now w.count };
 }
@@ -56,7 +58,7 @@ impl<'a> WrittenLine<'a> {
     }
 
     /// The name of a claim, where it is a second word.
-    pub fn name(&self) -> Option<Test>
+    pub fn name(&self) -> Option<ClaimName>
         ensures { result ≡ self.now.name }
     {
         self.name

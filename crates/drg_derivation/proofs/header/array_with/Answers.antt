@@ -1,4 +1,4 @@
-use Rattle.std.proofs.Common.{◌≡◌, take, drop, length, ◌-◌, ◌≤◌, arith, length-drop}
+use Rattle.std.proofs.Common.{drop, length, ◌-◌, arith, length-drop}
 use Rattle.std.proofs.lemmas.List.{take_all}
 use Rattle.drg_derivation.proofs.HeaderLaws.{array_made-by, array_from-made}
 use Rattle.drg_derivation.proofs.header.array_with.Goals as goal

@@ -1,4 +1,4 @@
-use Rattle.std.proofs.Common.{◌≡◌, ◌∙◌, sym, ap, pos, ◌-◌, ℕ, arith}
+use Rattle.std.proofs.Common.{◌∙◌, sym, ap, pos, ◌-◌, ℕ, arith}
 use Rattle.drg_array.specs.Entries.{c_at}
 use Rattle.drg_derivation.proofs.ListLaws.{array-b, array-c, array-count}
 use Rattle.drg_derivation.proofs.view.array_number.Goals as goal

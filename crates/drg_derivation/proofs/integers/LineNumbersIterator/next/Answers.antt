@@ -1,4 +1,4 @@
-use Rattle.std.proofs.Common.{◌≡◌, ◌∙◌, sym, ap, rules, arith, to_z, of_z, List, [], ◌∷◌, ℤ, suc, length}
+use Rattle.std.proofs.Common.{◌≡◌, ◌∙◌, sym, ap, rules, arith, to_z, of_z, [], ◌∷◌, ℤ, suc, length}
 use Rattle.std.specs.Int.{w128}
 use Rattle.std.proofs.lemmas.Int.{to_z-of_z}
 use Rattle.drg_derivation.specs.Reading.{integers_in}

@@ -1,4 +1,4 @@
-use Rattle.std.proofs.Common.{◌≡◌, subst, sym, List, ℤ}
+use Rattle.std.proofs.Common.{subst, sym}
 use Rattle.std.specs.List.{AllByRecursion}
 use Rattle.drg_derivation.specs.Integers.{IsShort}
 use Rattle.drg_derivation.proofs.ListLaws.{all-parts}
