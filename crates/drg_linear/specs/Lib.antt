@@ -1,0 +1,14 @@
+pub mod Unknowns
+pub mod Equations
+pub mod Sameness
+pub mod SamenessLaws
+pub mod Assignments
+pub mod Rooms
+pub mod Systems
+pub mod Triples
+pub mod Rounding
+pub mod Values
+pub mod Moduli
+pub mod Closing
+pub mod Splits
+pub mod Laws
