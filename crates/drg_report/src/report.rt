@@ -1,10 +1,10 @@
 //! The text of a report.
 //!
 //! Each line ends with one line feed, and each number is written in decimal. Tests, entries and
-//! sizes stand in the order in which the verdict has them. The helpers append, and after an error a
-//! part of what they write may be appended.
+//! sizes stand in the order in which the verdict has them.
 
-ghost use Rattle.std.specs.Prelude.{◌≡◌, ◌++◌, suc, IfOk, OnOk};
+ghost use Rattle.std.specs.Prelude.{◌≡◌, ◌++◌, suc, IfOk, OnOk, OnErr};
+ghost use Rattle.drg_algebra.specs.Beginnings.{BeginsWith};
 ghost use Rattle.drg_report.specs.Texts.{array_lines, names_text, numbers_lines, pending_line, pending_lines, report_text, sizes_text, verdict_line};
 
 use crate::words::{write_pending_text, write_verdict_words};
@@ -41,7 +41,8 @@ pub fn render(alloc: Global, array: &Array, verdict: &Verdict) -> Result<Vec<u8>
 
 /// Appends the line of the verdict.
 fn write_verdict_line(verdict: &Verdict, out: &mut Vec<u8>) -> Result<(), AllocError>
-    ensures { OnOk result (out.new.items ≡ out.old.items ++ verdict_line verdict.now) }
+    ensures ok { OnOk result (out.new.items ≡ out.old.items ++ verdict_line verdict.now) }
+    ensures err { OnErr result (BeginsWith (verdict_line verdict.now) out.old.items out.new.items) }
 {
     out.extend_from_slice(b"verdict ")?;
     write_verdict_words(verdict, out)?;
@@ -50,7 +51,9 @@ fn write_verdict_line(verdict: &Verdict, out: &mut Vec<u8>) -> Result<(), AllocE
 
 /// Appends the line of the array, and the line of the tests that ran and hold.
 fn write_array_lines(array: &Array, passed: &[Test], out: &mut Vec<u8>) -> Result<(), AllocError>
-    ensures { OnOk result (out.new.items ≡ out.old.items ++ array_lines array.now passed.now) }
+    ensures ok { OnOk result (out.new.items ≡ out.old.items ++ array_lines array.now passed.now) }
+    ensures err { OnErr result
+        (BeginsWith (array_lines array.now passed.now) out.old.items out.new.items) }
 {
     out.extend_from_slice(b"array ")?;
     array.write_text(out)?;
@@ -61,7 +64,8 @@ fn write_array_lines(array: &Array, passed: &[Test], out: &mut Vec<u8>) -> Resul
 
 /// Appends the names of the tests, with one space before each.
 fn write_names(tests: &[Test], out: &mut Vec<u8>) -> Result<(), AllocError>
-    ensures { OnOk result (out.new.items ≡ out.old.items ++ names_text tests.now) }
+    ensures ok { OnOk result (out.new.items ≡ out.old.items ++ names_text tests.now) }
+    ensures err { OnErr result (BeginsWith (names_text tests.now) out.old.items out.new.items) }
 {
     'tests: for test in tests {
         out.push(b' ')?;
@@ -72,7 +76,9 @@ fn write_names(tests: &[Test], out: &mut Vec<u8>) -> Result<(), AllocError>
 
 /// Appends a line for each test that isn't decided.
 fn write_pending_lines(pending: &[Pending], out: &mut Vec<u8>) -> Result<(), AllocError>
-    ensures { OnOk result (out.new.items ≡ out.old.items ++ pending_lines pending.now) }
+    ensures ok { OnOk result (out.new.items ≡ out.old.items ++ pending_lines pending.now) }
+    ensures err { OnErr result
+        (BeginsWith (pending_lines pending.now) out.old.items out.new.items) }
 {
     'entries: for entry in pending {
         write_pending_line(entry, out)?;
@@ -82,7 +88,8 @@ fn write_pending_lines(pending: &[Pending], out: &mut Vec<u8>) -> Result<(), All
 
 /// Appends the line of a test that isn't decided.
 fn write_pending_line(entry: &Pending, out: &mut Vec<u8>) -> Result<(), AllocError>
-    ensures { OnOk result (out.new.items ≡ out.old.items ++ pending_line entry.now) }
+    ensures ok { OnOk result (out.new.items ≡ out.old.items ++ pending_line entry.now) }
+    ensures err { OnErr result (BeginsWith (pending_line entry.now) out.old.items out.new.items) }
 {
     out.extend_from_slice(b"pending ")?;
     write_pending_text(entry, out)?;
@@ -91,7 +98,9 @@ fn write_pending_line(entry: &Pending, out: &mut Vec<u8>) -> Result<(), AllocErr
 
 /// Appends the line of the number of vertices, and the line of the sizes k_0 to k_d.
 fn write_numbers_lines(numbers: &Numbers, out: &mut Vec<u8>) -> Result<(), AllocError>
-    ensures { OnOk result (out.new.items ≡ out.old.items ++ numbers_lines numbers.now) }
+    ensures ok { OnOk result (out.new.items ≡ out.old.items ++ numbers_lines numbers.now) }
+    ensures err { OnErr result
+        (BeginsWith (numbers_lines numbers.now) out.old.items out.new.items) }
 {
     out.extend_from_slice(b"n ")?;
     out.extend_from_slice(Buffer::new().format(numbers.n()).as_bytes())?;
@@ -102,8 +111,10 @@ fn write_numbers_lines(numbers: &Numbers, out: &mut Vec<u8>) -> Result<(), Alloc
 
 /// Appends the sizes k_0 to k_d, with one space before each.
 fn write_sizes(numbers: &Numbers, out: &mut Vec<u8>) -> Result<(), AllocError>
-    ensures { OnOk result (out.new.items
+    ensures ok { OnOk result (out.new.items
         ≡ out.old.items ++ sizes_text numbers.now (suc numbers.now.d)) }
+    ensures err { OnErr result (BeginsWith (sizes_text numbers.now (suc numbers.now.d))
+        out.old.items out.new.items) }
 {
     let mut buffer = Buffer::new();
     'sizes: for i in 0..numbers.d() + 1 {

@@ -1,9 +1,9 @@
 //! The words of which a report is made.
 //!
-//! They stand in the lines of a text, and each by itself in other forms of a report. The helpers
-//! append, and after an error a part of what they write may be appended.
+//! They stand in the lines of a text, and each by itself in other forms of a report.
 
-ghost use Rattle.std.specs.Prelude.{◌≡◌, ◌++◌, IfOk, OnOk};
+ghost use Rattle.std.specs.Prelude.{◌≡◌, ◌++◌, IfOk, OnOk, OnErr};
+ghost use Rattle.drg_algebra.specs.Beginnings.{BeginsWith};
 ghost use Rattle.drg_report.specs.Words.{cause_text, claim_with_class, pending_text, verdict_words as the_verdict_words};
 
 use crate::{Cause, Pending, Verdict};
@@ -22,7 +22,9 @@ pub fn verdict_words(alloc: Global, verdict: &Verdict) -> Result<Vec<u8>, AllocE
 
 /// Appends the words of a verdict.
 pub(crate) fn write_verdict_words(verdict: &Verdict, out: &mut Vec<u8>) -> Result<(), AllocError>
-    ensures { OnOk result (out.new.items ≡ out.old.items ++ the_verdict_words verdict.now) }
+    ensures ok { OnOk result (out.new.items ≡ out.old.items ++ the_verdict_words verdict.now) }
+    ensures err { OnErr result
+        (BeginsWith (the_verdict_words verdict.now) out.old.items out.new.items) }
 {
     match verdict {
         Verdict::Infeasible(found) => {
@@ -34,14 +36,15 @@ pub(crate) fn write_verdict_words(verdict: &Verdict, out: &mut Vec<u8>) -> Resul
     }
 }
 
-/// Appends the claim and its class, with one space between them. After an error a part of it may be
-/// appended.
+/// Appends the claim and its class, with one space between them.
 pub fn write_claim_with_class(
     claim: Claim,
     class: Class,
     out: &mut Vec<u8>,
 ) -> Result<(), AllocError>
-    ensures { OnOk result (out.new.items ≡ out.old.items ++ claim_with_class claim class) }
+    ensures ok { OnOk result (out.new.items ≡ out.old.items ++ claim_with_class claim class) }
+    ensures err { OnErr result
+        (BeginsWith (claim_with_class claim class) out.old.items out.new.items) }
 {
     claim.write_text(out)?;
     out.extend_from_slice(b" ")?;
@@ -50,7 +53,8 @@ pub fn write_claim_with_class(
 
 /// Appends the test that isn't decided, and why.
 pub(crate) fn write_pending_text(entry: &Pending, out: &mut Vec<u8>) -> Result<(), AllocError>
-    ensures { OnOk result (out.new.items ≡ out.old.items ++ pending_text entry.now) }
+    ensures ok { OnOk result (out.new.items ≡ out.old.items ++ pending_text entry.now) }
+    ensures err { OnErr result (BeginsWith (pending_text entry.now) out.old.items out.new.items) }
 {
     entry.test.write_text(out)?;
     out.extend_from_slice(b" ")?;
@@ -59,7 +63,8 @@ pub(crate) fn write_pending_text(entry: &Pending, out: &mut Vec<u8>) -> Result<(
 
 /// Appends why a test isn't decided.
 fn write_cause(cause: &Cause, out: &mut Vec<u8>) -> Result<(), AllocError>
-    ensures { OnOk result (out.new.items ≡ out.old.items ++ cause_text cause.now) }
+    ensures ok { OnOk result (out.new.items ≡ out.old.items ++ cause_text cause.now) }
+    ensures err { OnErr result (BeginsWith (cause_text cause.now) out.old.items out.new.items) }
 {
     match cause {
         Cause::Wide(node) => {

@@ -1,8 +1,25 @@
-use Rattle.std.proofs.Common.{◌≡◌, suc, arith}
+use Rattle.std.proofs.Common.{◌≡◌, ◌<◌, suc, [], ◌∷◌, refl, ◌∙◌, arith}
+use Rattle.std.specs.Prelude.{decimal}
+use Rattle.drg_intersection.specs.Numbers.{k_at}
+use Rattle.drg_report.proofs.Appends.{nothing, size-begins}
 use Rattle.drg_report.proofs.report.write_sizes.Goals as goal
 
-pub returns : goal.returns
-returns c =
+pub returns-clause-ok : goal.returns-clause-ok
+returns-clause-ok c =
     let value = c.d-i-end.ensures.value in
     let all : c.sizes.i ≡ suc c.args.numbers.now.d = omega arith in
     rw all at c.sizes.invariant
+
+pub returns-in_err-push-clause-err : goal.returns-in_err-push-clause-err
+returns-in_err-push-clause-err c =
+    let value = c.d-i-end.ensures.value in
+    let inside : c.sizes.i < suc c.args.numbers.now.d = omega (arith, value, c.sizes-test.true) in
+    size-begins _ c.args.numbers.now _ c.sizes.i _ inside c.sizes.invariant (nothing _ _ c.in_err-push.ensures.items)
+
+pub returns-in_err-extend_from_slice-clause-err : goal.returns-in_err-extend_from_slice-clause-err
+returns-in_err-extend_from_slice-clause-err c =
+    let numbers = c.args.numbers.now in
+    let value = c.d-i-end.ensures.value in
+    let inside : c.sizes.i < suc numbers.d = omega (arith, value, c.sizes-test.true) in
+    size-begins _ numbers _ c.sizes.i _ inside c.sizes.invariant
+    (record { written = 32 ∷ []; rest = decimal (k_at numbers c.sizes.i); whole = refl; now = c.in_err-extend_from_slice.ensures.items ∙ c.in_ok-push.ensures.items })
