@@ -1,11 +1,16 @@
 -- The formula of a coefficient, from what the code reads of the array and of the two polynomials before.
 use Rattle.std.proofs.Common.{◌≡◌, ℕ, suc, Bool, true, false, ◌&&◌, refl, subst, List}
-use Rattle.std.specs.Prelude.{ℤ, pos, ◌*ℤ◌, Option, Some, None}
+use Rattle.std.specs.Prelude.{ℤ, pos, ◌*ℤ◌, Result, Ok, Err}
 use Rattle.drg_algebra.proofs.Tests.{and-in}
 use Rattle.drg_array.specs.Entries.{Entries, a_at, b_at, c_at}
 use Rattle.drg_eigen.specs.Characteristic.{weight_at}
 use Rattle.drg_eigen.specs.Fits.{coefficient, coefficient_before, first_difference, next_coefficient}
-use Rattle.drg_eigen.specs.Work.{Gives, in_range, less_product, less_product_fits, next_fits}
+use Rattle.drg_whole.specs.Range.{Gives, in_range}
+use Rattle.drg_whole.specs.Whole.{value_of}
+use Rattle.drg_whole.specs.Difference.{less_product, less_product_fits}
+use Rattle.drg_whole.specs.declared.whole.Whole.{Whole}
+use Rattle.drg_whole.specs.declared.whole.Wide.{Wide}
+use Rattle.drg_eigen.specs.Work.{next_fits}
 
 left-false : (a b : Bool) → a ≡ false → (a && b) ≡ false
 left-false true b e = (let h = e in cc)
@@ -45,14 +50,14 @@ module _ (a : Entries) (j : ℕ) (g f : List ℤ) (t : ℕ) where
   pub wide_weight : in_range (weight_at a (suc j)) ≡ false → next_fits a j g f t ≡ false
   wide_weight h = right-false first_test (in_range (weight_at a (suc j)) && last_test) (left-false (in_range (weight_at a (suc j))) last_test h)
 
-  by_cases : (r : Option ℤ) → first_test ≡ true → in_range (weight_at a (suc j)) ≡ true → Gives r last_test (next_coefficient a j g f t)
-      → Gives r (next_fits a j g f t) (next_coefficient a j g f t)
-  by_cases (Some v) h k l = (and-in first_test (in_range (weight_at a (suc j)) && last_test) h (and-in (in_range (weight_at a (suc j))) last_test k l.0), l.1)
-  by_cases None h k l = right-false first_test (in_range (weight_at a (suc j)) && last_test) (right-false (in_range (weight_at a (suc j))) last_test l)
+  by_cases : (r : Result Whole Wide) → first_test ≡ true → in_range (weight_at a (suc j)) ≡ true → Gives value_of r last_test (next_coefficient a j g f t)
+      → Gives value_of r (next_fits a j g f t) (next_coefficient a j g f t)
+  by_cases (Ok v) h k l = (and-in first_test (in_range (weight_at a (suc j)) && last_test) h (and-in (in_range (weight_at a (suc j))) last_test k l.0), l.1)
+  by_cases (Err e) h k l = right-false first_test (in_range (weight_at a (suc j)) && last_test) (right-false (in_range (weight_at a (suc j))) last_test l)
 
-  pub gives : (r : Option ℤ) (d w k : ℤ) → d ≡ first_difference a j f t → w ≡ weight_at a (suc j) → k ≡ coefficient g t
-      → first_test ≡ true → in_range (weight_at a (suc j)) ≡ true → Gives r (less_product_fits d w k) (less_product d w k)
-      → Gives r (next_fits a j g f t) (next_coefficient a j g f t)
+  pub gives : (r : Result Whole Wide) (d w k : ℤ) → d ≡ first_difference a j f t → w ≡ weight_at a (suc j) → k ≡ coefficient g t
+      → first_test ≡ true → in_range (weight_at a (suc j)) ≡ true → Gives value_of r (less_product_fits d w k) (less_product d w k)
+      → Gives value_of r (next_fits a j g f t) (next_coefficient a j g f t)
   gives r d w k ed ew ek h l m =
       by_cases r h l
-      (at_equal (λ (x y z : ℤ). Gives r (less_product_fits x y z) (less_product x y z)) d w k (first_difference a j f t) (weight_at a (suc j)) (coefficient g t) ed ew ek m)
+      (at_equal (λ (x y z : ℤ). Gives value_of r (less_product_fits x y z) (less_product x y z)) d w k (first_difference a j f t) (weight_at a (suc j)) (coefficient g t) ed ew ek m)

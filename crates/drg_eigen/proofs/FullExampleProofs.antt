@@ -1,6 +1,5 @@
 -- All factors of two characteristic polynomials.
-use Rattle.std.proofs.Common.{refl, arith, pos, inl, inr, [], ◌∷◌}
-use Rattle.std.specs.Prelude.{neg_ℤ}
+use Rattle.std.proofs.Common.{refl, arith}
 use Rattle.std.proofs.lemmas.Int.{ints}
 use Rattle.drg_eigen.specs.FullExamples.{AllPetersenFactors, AllPentagonFactors, HeptagonQuotient, petersen_list, pentagon_list}
 use Rattle.drg_eigen.proofs.ExampleProofs.{petersen_factors, pentagon_factors, not_five}

@@ -1,12 +1,12 @@
 -- The factors of a product of factors.
-use Rattle.std.proofs.Common.{◌≡◌, ℕ, zero, suc, ◌≤◌, refl, ap, ap₂, sym, ◌∙◌, subst, arith, ℤ, pos, List, [], ◌∷◌, ◌++◌, length, ◌⊎◌, inl, inr}
+use Rattle.std.proofs.Common.{◌≡◌, ◌≤◌, refl, ap, ap₂, sym, ◌∙◌, arith, ℤ, pos, List, [], ◌∷◌, ◌++◌, length, ◌⊎◌, inl, inr}
 use Rattle.std.specs.Prelude.{◌+ℤ◌, ◌*ℤ◌, neg_ℤ}
 use Rattle.std.proofs.lemmas.Int.{ints}
-use Rattle.drg_algebra.specs.Ring.{none, ◌⊕◌, ◌⊗◌, neg, ring2, ring3, ring4}
-use Rattle.drg_algebra.specs.Integer.{integers, whole_numbers}
-use Rattle.drg_eigen.specs.Factor.{Factor, linear, quadratic, degree, times_factor, Divides, product, IsAmong, IsIrreducible, AreIrreducible}
+use Rattle.drg_algebra.specs.Ring.{none, ◌⊕◌, ◌⊗◌, neg, ring2, ring4}
+use Rattle.drg_algebra.specs.Integer.{integers}
+use Rattle.drg_eigen.specs.Factor.{Factor, linear, quadratic, degree, times_factor, Divides, product, IsAmong}
 use Rattle.drg_eigen.specs.FactorLaws.{FactorsOfFullProduct}
-use Rattle.drg_eigen.proofs.Products.{factors_of_product, degrees_add}
+use Rattle.drg_eigen.proofs.FactorProducts.{factors_of_product, degrees_add}
 use Rattle.drg_eigen.proofs.Quotients.{carried_linear, carried_quadratic, quadratic_is}
 
 -- ---- a zero behind the last coefficient

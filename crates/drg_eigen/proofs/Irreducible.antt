@@ -15,7 +15,7 @@ use Rattle.drg_algebra.proofs.Pairs.{pair_laws_hold}
 use Rattle.drg_eigen.specs.Polynomial.{eval}
 use Rattle.drg_eigen.specs.Factor.{Factor, linear, quadratic, IsIrreducible, degree, times_factor, Divides, discriminant}
 use Rattle.drg_eigen.specs.FactorLaws.{DividesOrNot, IrreduciblesArePrime}
-use Rattle.drg_eigen.proofs.Values.{eval_linear, eval_quadratic, quadratic_at}
+use Rattle.drg_eigen.proofs.PolynomialValues.{eval_linear, eval_quadratic, quadratic_at}
 use Rattle.drg_eigen.proofs.SimpleFactors.{square_least, alpha_root}
 use Rattle.drg_eigen.proofs.Division.{divides_linear, divides_quadratic, linear_quotient, quadratic_quotient}
 
@@ -26,7 +26,7 @@ whole_laws = ordered_ring_laws_hold whole_numbers IsWholeAbove integers_ordered
 pub whole_domain : (x y : ℤ) → x *ℤ y ≡ pos 0 → (x ≡ pos 0) ⊎ (y ≡ pos 0)
 whole_domain = whole_laws.domain
 
-whole_test : (x : ℤ) → (x ≡ pos 0) ⊎ (¬ (x ≡ pos 0))
+pub whole_test : (x : ℤ) → (x ≡ pos 0) ⊎ (¬ (x ≡ pos 0))
 whole_test (pos zero) = inl refl
 whole_test (pos (suc n)) = inr (λ e. omega (arith, ints))
 whole_test (negsuc n) = inr (λ e. omega (arith, ints))

@@ -1,12 +1,11 @@
 pub mod Christoffel
-pub mod Values
+pub mod PolynomialValues
 pub mod SimpleFactors
 pub mod ArrayFactors
 pub mod Division
 pub mod Irreducible
-pub mod Products
+pub mod FactorProducts
 mod Quotients
-mod WholeQuotients
 mod Numerators
 mod FullProducts
 mod Coefficients
@@ -15,4 +14,24 @@ mod Formula
 mod OneCause
 mod ExampleProofs
 mod FullExampleProofs
-mod Search
+mod FactorOrder
+mod Discriminants
+mod SmallNumbers
+mod Members
+mod FallingNumbers
+mod Searches
+mod Trials
+mod FactorValues
+mod Cancelling
+mod OneSearch
+mod SquareParts
+mod RootFields
+mod FactorLists
+mod RootValues
+mod RootLists
+mod SortedRoots
+mod SplitTrials
+mod SplitAnswers
+mod SumTrials
+mod LinearTrials
+mod QuadraticTrials

@@ -1,15 +1,16 @@
 -- The quotient of a polynomial by a factor, coefficient by coefficient from the low end.
-use Rattle.std.proofs.Common.{◌≡◌, ◌≢◌, ℕ, zero, suc, ◌-◌, ◌≤◌, refl, ap, ap₂, sym, ◌∙◌, subst, arith, ℤ, pos, negsuc, List, [], ◌∷◌, ◌++◌, length, take, drop, get_or, ◌+◌, ◌<◌, inl, inr}
+use Rattle.std.proofs.Common.{◌≡◌, ◌≢◌, ℕ, zero, suc, ◌-◌, ◌≤◌, refl, ap, ap₂, sym, ◌∙◌, subst, arith, ℤ, pos, List, [], ◌∷◌, ◌++◌, length, take, drop, get_or, ◌+◌, ◌<◌, inl, inr}
 use Rattle.std.specs.Prelude.{◌+ℤ◌, ◌-ℤ◌, ◌*ℤ◌, neg_ℤ, slice_get, Option, Some, None}
 use Rattle.std.specs.List.{AllByRecursion}
 use Rattle.std.proofs.lemmas.Int.{ints}
 use Rattle.std.proofs.lemmas.List.{append_assoc, drop_more}
-use Rattle.drg_algebra.specs.Ring.{none, ◌⊕◌, ◌⊗◌, neg, ring2, ring3, ring4, ring5}
+use Rattle.drg_algebra.specs.Ring.{none, ◌⊕◌, ◌⊗◌, neg, ring2, ring3}
 use Rattle.drg_algebra.specs.Integer.{integers, whole_numbers}
 use Rattle.drg_eigen.specs.Polynomial.{add, scale, times_linear, times_quadratic}
 use Rattle.drg_eigen.specs.Factor.{Factor, linear, quadratic, times_factor, Divides}
 use Rattle.drg_eigen.specs.Division.{divisor, numerator, work_numbers, FitsFrom}
-use Rattle.drg_eigen.specs.Monic.{IsInRange, IsMonic}
+use Rattle.drg_whole.specs.Range.{InRange}
+use Rattle.drg_eigen.specs.Monic.{IsMonic}
 use Rattle.drg_eigen.specs.Step.{IsOver, but_last, shortened}
 use Rattle.drg_eigen.proofs.Irreducible.{whole_domain}
 
@@ -48,7 +49,7 @@ one_quotient d u v z ne e h =
     ]
 
 module _ (c : Factor) (f us : List ℤ) (p q g : ℤ) (gs : List ℤ) (here : Reached c f us p q (g ∷ gs)) where
-  pub step : (u : ℤ) → divisor c ≢ pos 0 → AllByRecursion IsInRange (work_numbers c p q g) → divisor c *ℤ u ≡ numerator c p q g → Reached c f (us ++ u ∷ []) q u gs
+  pub step : (u : ℤ) → divisor c ≢ pos 0 → AllByRecursion InRange (work_numbers c p q g) → divisor c *ℤ u ≡ numerator c p q g → Reached c f (us ++ u ∷ []) q u gs
   step u ne range e = record {
     further = λ vs h. subst (Ends c (pos 0) (pos 0) f) (sym (append_assoc us (u ∷ []) vs)) (here.further (u ∷ vs) (e, h));
     closed = λ vs h. after (here.closed vs h);
@@ -60,10 +61,10 @@ module _ (c : Factor) (f us : List ℤ) (p q g : ℤ) (gs : List ℤ) (here : Re
       after ([], h) = absurd h
       after (v ∷ ws, h) = (ws, subst (λ (z : ℤ). Ends c q z gs ws) (one_quotient (divisor c) v u (numerator c p q g) ne h.0 e) h.1)
 
-  pub stops_wide : (¬ AllByRecursion IsInRange (work_numbers c p q g)) → ¬ FitsFrom c (pos 0) (pos 0) f
+  pub stops_wide : (¬ AllByRecursion InRange (work_numbers c p q g)) → ¬ FitsFrom c (pos 0) (pos 0) f
   stops_wide wide h = wide (here.unfit h).0
 
-  pub stops_fits : AllByRecursion IsInRange (work_numbers c p q g) → ((u : ℤ) → ¬ (divisor c *ℤ u ≡ numerator c p q g)) → FitsFrom c (pos 0) (pos 0) f
+  pub stops_fits : AllByRecursion InRange (work_numbers c p q g) → ((u : ℤ) → ¬ (divisor c *ℤ u ≡ numerator c p q g)) → FitsFrom c (pos 0) (pos 0) f
   stops_fits range none_whole = here.fit (range, λ u e. absurd (none_whole u e))
 
   pub stops : ((u : ℤ) → ¬ (divisor c *ℤ u ≡ numerator c p q g)) → (vs : List ℤ) → ¬ Ends c (pos 0) (pos 0) f vs

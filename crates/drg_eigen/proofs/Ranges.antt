@@ -1,20 +1,14 @@
 -- The work numbers of a coefficient are in range where its test says so.
 use Rattle.std.proofs.Common.{◌≡◌, ℕ, zero, suc, ◌≤◌, ◌<◌, Bool, true, false, ◌&&◌, refl, sym, ap, subst, arith, inl, inr}
-use Rattle.std.specs.Prelude.{ℤ, ◌^◌, ◌*ℤ◌, unsigned_abs, ◌⊎◌, List}
+use Rattle.std.specs.Prelude.{ℤ, ◌*ℤ◌, ◌⊎◌, List}
 use Rattle.std.specs.List.{AllByRecursion}
-use Rattle.std.proofs.lemmas.Bool.Decides.{nat_tests}
-use Rattle.drg_algebra.proofs.Tests.{both, and-in, decided, never}
+use Rattle.drg_algebra.proofs.Tests.{both, and-in, never}
 use Rattle.drg_array.specs.Entries.{Entries, diameter, a_at}
 use Rattle.drg_eigen.specs.Characteristic.{weight_at, polynomial}
 use Rattle.drg_eigen.specs.Fits.{Fits, AllFitBelow, IsFirstWide, work_numbers, coefficient, first_difference, next_coefficient}
-use Rattle.drg_eigen.specs.Monic.{IsInRange}
-use Rattle.drg_eigen.specs.Work.{in_range, next_fits}
-
-pub range_in : (z : ℤ) → in_range z ≡ true → IsInRange z
-range_in z h = grind (arith, nat_tests, h)
-
-pub range_out : (z : ℤ) → IsInRange z → in_range z ≡ true
-range_out z h = elim (decided (in_range z)) [ inl e ↦ e | inr e ↦ (let here : unsigned_abs z < 2 ^ 127 = h in absurd (grind (arith, nat_tests, e, here))) ]
+use Rattle.drg_whole.specs.Range.{InRange, in_range}
+use Rattle.drg_whole.proofs.Ranges.{fits as range_out, fitting as range_in}
+use Rattle.drg_eigen.specs.Work.{next_fits}
 
 module _ (a : Entries) (j : ℕ) (g f : List ℤ) (t : ℕ) where
   abbrev product_a : ℤ
@@ -29,7 +23,7 @@ module _ (a : Entries) (j : ℕ) (g f : List ℤ) (t : ℕ) where
   abbrev last_test : Bool
   last_test = in_range product_w && in_range (next_coefficient a j g f t)
 
-  pub fits_in : next_fits a j g f t ≡ true → AllByRecursion IsInRange (work_numbers a j g f t)
+  pub fits_in : next_fits a j g f t ≡ true → AllByRecursion InRange (work_numbers a j g f t)
   fits_in h =
       let all = both first_test (in_range (weight_at a (suc j)) && last_test) h in
       let rest = both (in_range (weight_at a (suc j))) last_test all.1 in
@@ -45,7 +39,7 @@ module _ (a : Entries) (j : ℕ) (g f : List ℤ) (t : ℕ) where
         ),
       )
 
-  pub fits_out : AllByRecursion IsInRange (work_numbers a j g f t) → next_fits a j g f t ≡ true
+  pub fits_out : AllByRecursion InRange (work_numbers a j g f t) → next_fits a j g f t ≡ true
   fits_out h =
       and-in first_test (in_range (weight_at a (suc j)) && last_test)
       (and-in (in_range product_a) (in_range (first_difference a j f t)) (range_out product_a h.0) (range_out (first_difference a j f t) h.1.0))
@@ -53,7 +47,7 @@ module _ (a : Entries) (j : ℕ) (g f : List ℤ) (t : ℕ) where
       (and-in (in_range product_w) (in_range (next_coefficient a j g f t)) (range_out product_w h.1.1.1.0) (range_out (next_coefficient a j g f t) h.1.1.1.1.0)))
 
 -- the coefficient itself is the last of its work numbers
-pub value_in : (a : Entries) (j : ℕ) (g f : List ℤ) (t : ℕ) → next_fits a j g f t ≡ true → IsInRange (next_coefficient a j g f t)
+pub value_in : (a : Entries) (j : ℕ) (g f : List ℤ) (t : ℕ) → next_fits a j g f t ≡ true → InRange (next_coefficient a j g f t)
 value_in a j g f t h = (fits_in a j g f t h).1.1.1.1.0
 
 pub two_cases : (i m : ℕ) → i < suc m → (i ≡ m) ⊎ (i < m)

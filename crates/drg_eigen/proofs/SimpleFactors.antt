@@ -11,7 +11,7 @@ use Rattle.drg_eigen.specs.Polynomial.{times_linear, times_quadratic, eval}
 use Rattle.drg_eigen.specs.Recurrence.{at, slope, weighted, chain}
 use Rattle.drg_eigen.specs.Factor.{linear, quadratic, discriminant}
 use Rattle.drg_eigen.specs.FactorLaws.{IsPositive, NoDoubleFactorOfChain, QuadraticsOfChainAreReal}
-use Rattle.drg_eigen.proofs.Values.{eval_linear, eval_quadratic, quadratic_at, eval_chain}
+use Rattle.drg_eigen.proofs.PolynomialValues.{eval_linear, eval_quadratic, quadratic_at, eval_chain}
 use Rattle.drg_eigen.proofs.Christoffel.{christoffel_darboux_holds, confluent_holds, at_dual_holds}
 
 -- ---- signs of whole numbers

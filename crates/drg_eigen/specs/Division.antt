@@ -4,7 +4,7 @@ use Rattle.std.specs.List.{AllByRecursion}
 use Rattle.drg_array.specs.declared.node.Node.{Node}
 use Rattle.drg_array.specs.declared.node.Node.TheVariants.{Linear, Quadratic}
 use Rattle.drg_eigen.specs.Factor.{Factor, linear, quadratic, times_factor, Divides}
-use Rattle.drg_eigen.specs.Monic.{IsInRange}
+use Rattle.drg_whole.specs.Range.{InRange}
 use Rattle.drg_eigen.specs.declared.fault.EigenFault.{EigenFault}
 use Rattle.drg_eigen.specs.declared.fault.EigenFault.TheVariants.{Wide, Memory}
 
@@ -18,6 +18,11 @@ abbrev pub numerator : Factor → ℤ → ℤ → ℤ → ℤ
 numerator (linear r) p q g = q -ℤ g
 numerator (quadratic s t) p q g = (g +ℤ s *ℤ q) -ℤ p
 
+-- a factor to divide by: not x² - s x
+abbrev pub IsDivisor : Factor → Type 0
+IsDivisor (linear r) = Unit {0}
+IsDivisor (quadratic s t) = t ≢ pos 0
+
 -- the product, the sum and the differences of a numerator; the quotient is no larger than it
 abbrev pub work_numbers : Factor → ℤ → ℤ → ℤ → List ℤ
 work_numbers (linear r) p q g = (q -ℤ g) ∷ []
@@ -26,7 +31,7 @@ work_numbers (quadratic s t) p q g = (s *ℤ q) ∷ (g +ℤ s *ℤ q) ∷ ((g +�
 -- those of the coefficients in the list and up to the first quotient that isn't whole are in range
 abbrev pub FitsFrom : Factor → ℤ → ℤ → List ℤ → Type 0
 FitsFrom c p q [] = Unit {0}
-FitsFrom c p q (g ∷ gs) = AllByRecursion IsInRange (work_numbers c p q g) × ((u : ℤ) → divisor c *ℤ u ≡ numerator c p q g → FitsFrom c q u gs)
+FitsFrom c p q (g ∷ gs) = AllByRecursion InRange (work_numbers c p q g) × ((u : ℤ) → divisor c *ℤ u ≡ numerator c p q g → FitsFrom c q u gs)
 
 -- the division of a polynomial fits; that by x has no work numbers
 abbrev pub DivisionFits : Factor → List ℤ → Type 0
@@ -37,11 +42,12 @@ abbrev pub IsDivided : Factor → List ℤ → Option (List ℤ) → Type 0
 IsDivided c f (Some q) = times_factor c q ≡ f
 IsDivided c f None = ¬ (Divides c f)
 
--- the cause of a fault of a division by x - r or by x² - s x + t
-abbrev pub IsLinearFault : ℤ → List ℤ → EigenFault → Type 0
-IsLinearFault r f (Wide node) = (node ≡ Linear r) × (¬ DivisionFits (linear r) f)
-IsLinearFault r f Memory = Unit {0}
+-- the node of the division by a factor
+abbrev pub node_of : Factor → Node
+node_of (linear r) = Linear r
+node_of (quadratic s t) = Quadratic s t
 
-abbrev pub IsQuadraticFault : ℤ → ℤ → List ℤ → EigenFault → Type 0
-IsQuadraticFault s t f (Wide node) = (node ≡ Quadratic s t) × (¬ DivisionFits (quadratic s t) f)
-IsQuadraticFault s t f Memory = Unit {0}
+-- the cause of a fault of the division by a factor
+abbrev pub IsDivisionFault : Factor → List ℤ → EigenFault → Type 0
+IsDivisionFault c f (Wide node) = (node ≡ node_of c) × (¬ DivisionFits c f)
+IsDivisionFault c f Memory = Unit {0}

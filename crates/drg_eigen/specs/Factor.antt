@@ -31,6 +31,11 @@ abbrev pub degree : Factor → ℕ
 degree (linear r) = 1
 degree (quadratic s t) = 2
 
+-- the coefficients of a factor, from the constant upwards
+abbrev pub polynomial_of : Factor → List ℤ
+polynomial_of (linear r) = neg_ℤ r ∷ pos 1 ∷ []
+polynomial_of (quadratic s t) = t ∷ neg_ℤ s ∷ pos 1 ∷ []
+
 -- a factor times a polynomial
 abbrev pub times_factor : Factor → List ℤ → List ℤ
 times_factor (linear r) f = times_linear whole_numbers r f

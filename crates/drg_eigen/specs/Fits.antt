@@ -5,7 +5,7 @@ use Rattle.std.specs.List.{AllByRecursion}
 use Rattle.drg_array.specs.Entries.{Entries, diameter, a_at}
 use Rattle.drg_array.specs.declared.node.Node.TheVariants.{Poly}
 use Rattle.drg_eigen.specs.Characteristic.{weight_at, polynomial}
-use Rattle.drg_eigen.specs.Monic.{IsInRange}
+use Rattle.drg_whole.specs.Range.{InRange}
 use Rattle.drg_eigen.specs.declared.fault.EigenFault.{EigenFault}
 use Rattle.drg_eigen.specs.declared.fault.EigenFault.TheVariants.{Wide, Memory}
 
@@ -40,7 +40,7 @@ work_numbers a j g f t =
 abbrev pub Fits : Entries → ℕ → Type 0
 Fits a zero = Unit {0}
 Fits a (suc zero) = Unit {0}
-Fits a (suc (suc j)) = (t : ℕ) → t ≤ suc (suc j) → AllByRecursion IsInRange (work_numbers a j (polynomial a j) (polynomial a (suc j)) t)
+Fits a (suc (suc j)) = (t : ℕ) → t ≤ suc (suc j) → AllByRecursion InRange (work_numbers a j (polynomial a j) (polynomial a (suc j)) t)
 
 -- those of F_0 to F_(n-1) fit
 abbrev pub AllFitBelow : Entries → ℕ → Type 0

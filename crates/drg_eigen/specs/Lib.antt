@@ -4,8 +4,17 @@ pub mod RecurrenceLaws
 pub mod Characteristic
 pub mod Factor
 pub mod Division
+pub mod Order
+pub mod Simple
+pub mod Search
+pub mod Candidates
 pub mod Step
 pub mod Spectrum
+pub mod Split
+pub mod Values
+pub mod Products
+pub mod Found
+pub mod Roots
 pub mod FactorLaws
 pub mod Monic
 pub mod Fits

@@ -14,18 +14,26 @@
 //! polynomial twice (`specs/FactorLaws.antt`).
 #![tactic(auto)]
 
+mod discriminant;
+mod divisor;
+mod factors;
 mod fault;
 mod laws;
 mod poly;
+mod products;
 mod quotient;
 mod recurrence;
-mod work;
+mod search;
+mod spectrum;
+mod split;
+mod values;
 
+pub use factors::{Eigenvalues, Factors};
 pub use fault::EigenFault;
 pub use laws::{example_law, factor_law, fault_law, has_simple_factors, recurrence_law};
 pub use poly::Poly;
-pub use quotient::{divided_by_linear, divided_by_quadratic};
 pub use recurrence::characteristic;
+pub use split::{OtherSpectrum, Spectrum, Split, split_of};
 
 #[cfg(test)]
 mod tests;

@@ -1,14 +1,16 @@
 //! Monic polynomials.
 
-ghost use Rattle.std.specs.Prelude.{◌≡◌, ◌↔◌, IsTrue, IsSome, IfSome};
+ghost use Rattle.std.specs.Prelude.{◌≡◌, ◌↔◌, IsTrue, IsSome, IfSome, IfOk};
 ghost use Rattle.std.specs.List.{AllByRecursion};
-ghost use Rattle.drg_eigen.specs.Monic.{IsInRange, IsMonic, IsPoly};
+ghost use Rattle.drg_whole.specs.Range.{InRange};
+ghost use Rattle.drg_eigen.specs.Monic.{IsMonic, IsPoly};
 
+use std::alloc::{AllocError, Global};
 use std::marker::Model;
 
 /// A monic polynomial with whole coefficients from -(2^127 - 1) to 2^127 - 1, seen as the list of its
 /// coefficients from the constant upwards.
-#[derive(Drop)]
+#[derive(Drop, Debug)]
 pub struct Poly {
     coefficients: Vec<i128>,
 }
@@ -44,6 +46,15 @@ impl Poly {
         Poly { coefficients }
     }
 
+    pub(crate) fn copied(&self, alloc: Global) -> Result<Poly, AllocError>
+        ensures copy { IfOk result (λ p. p ≡ self.now) }
+        ensures poly { IsPoly self.now }
+    {
+        Ok(Poly {
+            coefficients: Vec::from_slice(alloc, &self.coefficients)?,
+        })
+    }
+
     /// The coefficients, from the constant upwards.
     pub fn coefficients(&self) -> &[i128]
         ensures items { result.now ≡ self.now }
@@ -65,7 +76,7 @@ fn is_monic(numbers: &[i128]) -> bool
 
 /// Whether none of the numbers is `i128::MIN`.
 fn are_in_range(numbers: &[i128]) -> bool
-    ensures { IsTrue result ↔ AllByRecursion IsInRange numbers.now }
+    ensures { IsTrue result ↔ AllByRecursion InRange numbers.now }
 {
     numbers.iter().all(|&number| number != i128::MIN)
 }

@@ -1,74 +1,38 @@
 //! Division of a polynomial by `x - r` and by `x² - sx + t`.
 
 ghost use Rattle.std.specs.Prelude.{◌≡◌, ◌≢◌, ◌↔◌, None, pos, IfOk, IfErr, IfSome, IfNone, IsTrue};
-ghost use Rattle.std.specs.List.{AllByRecursion};
-ghost use Rattle.drg_eigen.specs.Division.{IsDivided, IsLinearFault, IsQuadraticFault, DivisionFits, divisor as the_divisor};
-ghost use Rattle.drg_eigen.specs.Factor.{linear, quadratic};
-ghost use Rattle.drg_eigen.specs.Monic.{IsInRange, IsPoly};
-ghost use Rattle.drg_eigen.specs.Work.{Gives};
-ghost use Rattle.drg_eigen.specs.Step.{IsDivisionFault, IsDividedInRange, IsNumerator, IsOver, IsWholeQuotient, factor_of, shortened};
+ghost use Rattle.drg_eigen.specs.Division.{IsDivided, IsDivisor, IsDivisionFault, DivisionFits, divisor as the_divisor};
+ghost use Rattle.drg_eigen.specs.Factor.{linear};
+ghost use Rattle.drg_eigen.specs.Monic.{IsPoly};
+ghost use Rattle.drg_eigen.specs.Step.{IsDividedInRange, IsNumerator, IsOver, factor_of, shortened};
 
+use crate::divisor::Divisor;
 use crate::fault::EigenFault;
 use crate::poly::Poly;
-use crate::work::{minus, plus, times};
-use drg_array::Node;
-use std::alloc::Global;
+use drg_whole::{Whole, Wide};
+use std::alloc::{AllocError, Global};
 
-/// The polynomial divided by `x - r`, or none where `x - r` doesn't divide it. A fault names the
-/// division by `x - r`, where it has a number above 2^127 - 1 in magnitude before a coefficient of the
-/// quotient isn't whole.
-pub fn divided_by_linear(alloc: Global, poly: &Poly, r: i32) -> Result<Option<Poly>, EigenFault>
-    ensures divided { IfOk result (IsDivided (linear r) poly.now) }
-    ensures fits { IfOk result (λ answer. DivisionFits (linear r) poly.now) }
-    ensures fault { IfErr result (IsLinearFault r poly.now) }
+/// The polynomial over the divisor, or none where the divisor doesn't divide it. A fault names the
+/// division, where it has a number above 2^127 - 1 in magnitude before a coefficient of the quotient
+/// isn't whole.
+pub fn divided_by(alloc: Global, poly: &Poly, divisor: Divisor) -> Result<Option<Poly>, EigenFault>
+    requires { IsDivisor (factor_of divisor) }
+    ensures divided { IfOk result (IsDivided (factor_of divisor) poly.now) }
+    ensures fits { IfOk result (λ answer. DivisionFits (factor_of divisor) poly.now) }
+    ensures fault { IfErr result (IsDivisionFault (factor_of divisor) poly.now) }
 {
-    if r == 0 {
-        return divided_by_x(alloc, poly);
+    if divisor.constant().is_zero() {
+        return Ok(divided_by_x(alloc, poly)?);
     }
-    divided(
-        alloc,
-        poly,
-        Divisor::Linear { r: i128::from(r) },
-        Node::Linear { r },
-    )
-}
-
-/// The polynomial divided by `x² - sx + t`, or none where it doesn't divide the polynomial. A fault
-/// names the division, where it has a number above 2^127 - 1 in magnitude before a coefficient of the
-/// quotient isn't whole.
-pub fn divided_by_quadratic(
-    alloc: Global,
-    poly: &Poly,
-    s: i32,
-    t: i32,
-) -> Result<Option<Poly>, EigenFault>
-    requires { t ≢ pos 0 }
-    ensures divided { IfOk result (IsDivided (quadratic s t) poly.now) }
-    ensures fits { IfOk result (λ answer. DivisionFits (quadratic s t) poly.now) }
-    ensures fault { IfErr result (IsQuadraticFault s t poly.now) }
-{
-    divided(
-        alloc,
-        poly,
-        Divisor::Quadratic {
-            s: i128::from(s),
-            t: i128::from(t),
-        },
-        Node::Quadratic { s, t },
-    )
-}
-
-/// `x - r` or `x² - sx + t`.
-#[derive(Clone, Copy)]
-enum Divisor {
-    Linear { r: i128 },
-    Quadratic { s: i128, t: i128 },
+    match quotient(alloc, poly.coefficients(), divisor)? {
+        Some(quotient) => Ok(Some(Poly::of_coefficients(quotient))),
+        None => Ok(None),
+    }
 }
 
 /// The polynomial divided by x: its coefficients but the constant, where that is 0.
-fn divided_by_x(alloc: Global, poly: &Poly) -> Result<Option<Poly>, EigenFault>
-    ensures divided { IfOk result (IsDivided (linear (pos 0)) poly.now) }
-    ensures fault { IfErr result (IsLinearFault (pos 0) poly.now) }
+fn divided_by_x(alloc: Global, poly: &Poly) -> Result<Option<Poly>, AllocError>
+    ensures { IfOk result (IsDivided (linear (pos 0)) poly.now) }
 {
     let coefficients = poly.coefficients();
     if coefficients[0] != 0 {
@@ -78,49 +42,34 @@ fn divided_by_x(alloc: Global, poly: &Poly) -> Result<Option<Poly>, EigenFault>
     Ok(Some(Poly::of_coefficients(quotient)))
 }
 
-/// The polynomial over the divisor, which isn't x. The node is for the fault.
-fn divided(
-    alloc: Global,
-    poly: &Poly,
-    divisor: Divisor,
-    node: Node,
-) -> Result<Option<Poly>, EigenFault>
-    requires { the_divisor (factor_of divisor) ≢ pos 0 }
-    ensures divided { IfOk result (IsDivided (factor_of divisor) poly.now) }
-    ensures fits { IfOk result (λ answer. DivisionFits (factor_of divisor) poly.now) }
-    ensures fault { IfErr result (IsDivisionFault (factor_of divisor) node poly.now) }
-{
-    match quotient(alloc, poly.coefficients(), divisor, node)? {
-        Some(quotient) => Ok(Some(Poly::of_coefficients(quotient))),
-        None => Ok(None),
-    }
-}
-
-/// The coefficients of the quotient, from the constant upwards.
+/// The coefficients of the quotient by a divisor other than x, from the constant upwards.
 fn quotient(
     alloc: Global,
     coefficients: &[i128],
     divisor: Divisor,
-    node: Node,
 ) -> Result<Option<Vec<i128>>, EigenFault>
     requires poly { IsPoly coefficients.now }
     requires divisor { the_divisor (factor_of divisor) ≢ pos 0 }
-    ensures some { IfOk result (λ answer. IfSome answer (λ q. IsDividedInRange (factor_of divisor) coefficients.now q.items)) }
-    ensures none { IfOk result (λ answer. IfNone answer (IsDivided (factor_of divisor) coefficients.now None)) }
+    ensures some { IfOk result (λ answer. IfSome answer (λ q.
+        IsDividedInRange (factor_of divisor) coefficients.now q.items)) }
+    ensures none { IfOk result (λ answer. IfNone answer
+        (IsDivided (factor_of divisor) coefficients.now None)) }
     ensures fits { IfOk result (λ answer. DivisionFits (factor_of divisor) coefficients.now) }
-    ensures fault { IfErr result (IsDivisionFault (factor_of divisor) node coefficients.now) }
+    ensures fault { IfErr result (IsDivisionFault (factor_of divisor) coefficients.now) }
 {
     let mut quotient = Vec::new(alloc);
-    let mut before = 0;
-    let mut last = 0;
+    let mut before = Whole::new(0);
+    let mut last = Whole::new(0);
     'coefficients: for coefficient in coefficients {
-        let Some(number) = numerator(divisor, before, last, *coefficient) else {
-            return Err(EigenFault::Wide { node });
+        let Ok(number) = numerator(divisor, before, last, Whole::new(*coefficient)) else {
+            return Err(EigenFault::Wide {
+                node: divisor.node(),
+            });
         };
-        let Some(next) = whole_quotient(divisor, number) else {
+        let Some(next) = number.whole_quotient(divisor.constant()) else {
             return Ok(None);
         };
-        quotient.push(next)?;
+        quotient.push(next.value)?;
         before = last;
         last = next;
     }
@@ -131,47 +80,31 @@ fn quotient(
     Ok(Some(quotient))
 }
 
-/// The numerator of the next coefficient, after two of the quotient, where its numbers are in range.
-fn numerator(divisor: Divisor, before: i128, last: i128, coefficient: i128) -> Option<i128>
-    ensures { IsNumerator (factor_of divisor) before last coefficient result }
+/// The numerator of the next coefficient, after two of the quotient.
+fn numerator(
+    divisor: Divisor,
+    before: Whole,
+    last: Whole,
+    coefficient: Whole,
+) -> Result<Whole, Wide>
+    ensures { IsNumerator (factor_of divisor) before.value last.value coefficient.value result }
 {
     match divisor {
-        Divisor::Linear { .. } => minus(last, coefficient),
-        Divisor::Quadratic { s, .. } => minus(plus(coefficient, times(s, last)?)?, before),
+        Divisor::Linear { .. } => last.minus(coefficient),
+        Divisor::Quadratic { s, .. } => {
+            let s = Whole::new(i128::from(s));
+            coefficient.plus(s.times(last)?)?.minus(before)
+        }
     }
-}
-
-/// The number over r or t, where the quotient is whole.
-fn whole_quotient(divisor: Divisor, number: i128) -> Option<i128>
-    requires number { IsInRange number }
-    requires divisor { the_divisor (factor_of divisor) ≢ pos 0 }
-    ensures { IsWholeQuotient (the_divisor (factor_of divisor)) number result }
-{
-    match divisor {
-        Divisor::Linear { r } => over(number, r),
-        Divisor::Quadratic { t, .. } => over(number, t),
-    }
-}
-
-/// The number over the divisor, where the quotient is whole.
-fn over(number: i128, divisor: i128) -> Option<i128>
-    requires number { IsInRange number }
-    requires divisor { divisor ≢ pos 0 }
-    ensures { IsWholeQuotient divisor number result }
-{
-    if number % divisor != 0 {
-        return None;
-    }
-    Some(number / divisor)
 }
 
 /// Whether nothing is left over at the end, after the last two coefficients.
-fn is_over(divisor: Divisor, before: i128, last: i128) -> bool
-    ensures { IsTrue result ↔ IsOver (factor_of divisor) before last }
+fn is_over(divisor: Divisor, before: Whole, last: Whole) -> bool
+    ensures { IsTrue result ↔ IsOver (factor_of divisor) before.value last.value }
 {
     match divisor {
-        Divisor::Linear { .. } => last == 0,
-        Divisor::Quadratic { .. } => before == 0 && last == 0,
+        Divisor::Linear { .. } => last.is_zero(),
+        Divisor::Quadratic { .. } => before.is_zero() && last.is_zero(),
     }
 }
 

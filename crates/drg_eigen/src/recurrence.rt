@@ -6,14 +6,15 @@ ghost use Rattle.drg_array.specs.Entries.{diameter};
 ghost use Rattle.drg_array.specs.declared.node.Node.TheVariants as node;
 ghost use Rattle.drg_eigen.specs.Characteristic.{characteristic as the_characteristic, polynomial};
 ghost use Rattle.drg_eigen.specs.Fits.{AllFit, AllFitBelow, IsFault, coefficient as the_coefficient, coefficient_before as the_coefficient_before, next_coefficient as the_next_coefficient};
-ghost use Rattle.drg_eigen.specs.Monic.{IsInRange};
-ghost use Rattle.drg_eigen.specs.Work.{Gives, next_fits};
-ghost use Rattle.drg_eigen.specs.declared.fault.EigenFault.TheVariants.{Wide};
+ghost use Rattle.drg_whole.specs.Range.{Gives, InRange};
+ghost use Rattle.drg_whole.specs.Whole.{value_of};
+ghost use Rattle.drg_eigen.specs.Work.{next_fits};
+ghost use Rattle.drg_eigen.specs.declared.fault.EigenFault.TheVariants as fault;
 
 use crate::fault::EigenFault;
 use crate::poly::Poly;
-use crate::work::{minus_product, times};
 use drg_array::{Array, Node};
+use drg_whole::{Whole, Wide};
 use std::alloc::Global;
 
 /// The characteristic polynomial F_(d+1) of the array, where d is its diameter. A fault names the first
@@ -44,19 +45,21 @@ fn next_polynomial(
     requires inside { j < diameter array.now }
     requires before { before.now ≡ polynomial array.now j }
     requires last { last.now ≡ polynomial array.now (suc j) }
+    requires before_in_range { AllByRecursion InRange before.now }
+    requires last_in_range { AllByRecursion InRange last.now }
     requires reached { AllFitBelow array.now (suc (suc j)) }
     ensures next { IfOk result (λ next. next.items ≡ polynomial array.now (suc (suc j))) }
-    ensures in_range { IfOk result (λ next. AllByRecursion IsInRange next.items) }
+    ensures in_range { IfOk result (λ next. AllByRecursion InRange next.items) }
     ensures reached { IfOk result (λ next. AllFitBelow array.now (suc (suc (suc j)))) }
     ensures fault { IfErr result (IsFault array.now) }
 {
     let _ = array.d();
     let mut next = Vec::new(alloc);
     'coefficients: for t in 0..j + 3 {
-        let Some(coefficient) = next_coefficient(array, j, before, last, t) else {
+        let Ok(coefficient) = next_coefficient(array, j, before, last, t) else {
             return Err(wide(j + 2));
         };
-        next.push(coefficient)?;
+        next.push(coefficient.value)?;
     }
     Ok(next)
 }
@@ -64,50 +67,53 @@ fn next_polynomial(
 /// The fault that names F_j.
 fn wide(j: usize) -> EigenFault
     requires { j < 256 }
-    ensures { result ≡ Wide (node.Poly j) }
+    ensures { result ≡ fault.Wide (node.Poly j) }
 {
     EigenFault::Wide {
         node: Node::Poly { j: j as u8 },
     }
 }
 
-/// The coefficient of x^t in F_(j+2), from F_j and F_(j+1), where all its products and differences are
-/// in range.
+/// The coefficient of x^t in F_(j+2), from F_j and F_(j+1).
 fn next_coefficient(
     array: &Array,
     j: usize,
     before: &[i128],
     last: &[i128],
     t: usize,
-) -> Option<i128>
+) -> Result<Whole, Wide>
     requires inside { j < diameter array.now }
-    ensures { Gives result (next_fits array.now j before.now last.now t)
+    requires before { AllByRecursion InRange before.now }
+    requires last { AllByRecursion InRange last.now }
+    ensures { Gives value_of result (next_fits array.now j before.now last.now t)
         (the_next_coefficient array.now j before.now last.now t) }
 {
     let _ = array.d();
-    let a = i128::from(array.a(j + 1));
-    let first = minus_product(coefficient_before(last, t), a, coefficient(last, t))?;
-    let weight = times(i128::from(array.b(j)), i128::from(array.c(j + 1)))?;
-    minus_product(first, weight, coefficient(before, t))
+    let a = Whole::new(i128::from(array.a(j + 1)));
+    let first = coefficient_before(last, t).less_product(a, coefficient(last, t))?;
+    let weight = Whole::from(array.b(j)).times(Whole::from(array.c(j + 1)))?;
+    first.less_product(weight, coefficient(before, t))
 }
 
 /// The coefficient of x^t, and 0 past the last one.
-fn coefficient(polynomial: &[i128], t: usize) -> i128
-    ensures { result ≡ the_coefficient polynomial.now t }
+fn coefficient(polynomial: &[i128], t: usize) -> Whole
+    requires { AllByRecursion InRange polynomial.now }
+    ensures { result.value ≡ the_coefficient polynomial.now t }
 {
     if t < polynomial.len() {
-        polynomial[t]
+        Whole::new(polynomial[t])
     } else {
-        0
+        Whole::new(0)
     }
 }
 
 /// The coefficient of x^(t-1), and 0 for t = 0.
-fn coefficient_before(polynomial: &[i128], t: usize) -> i128
-    ensures { result ≡ the_coefficient_before polynomial.now t }
+fn coefficient_before(polynomial: &[i128], t: usize) -> Whole
+    requires { AllByRecursion InRange polynomial.now }
+    ensures { result.value ≡ the_coefficient_before polynomial.now t }
 {
     if t == 0 {
-        return 0;
+        return Whole::new(0);
     }
     coefficient(polynomial, t - 1)
 }

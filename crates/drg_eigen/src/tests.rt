@@ -1,5 +1,5 @@
 //! Polynomials by hand.
-use crate::{EigenFault, Poly, characteristic, divided_by_linear, divided_by_quadratic};
+use crate::{EigenFault, Poly, characteristic};
 use drg_array::{Array, Node};
 use std::process::Abort;
 use std::test::Fail;
@@ -50,47 +50,6 @@ fn made(rt: HostRuntime) -> Result<(), Fail> {
     for (coefficients, monic) in cases {
         let poly = Poly::make(Vec::from_slice(rt.alloc(), coefficients)?);
         assert_eq!(rt; poly.is_some(), monic, "{coefficients:?}");
-    }
-    Ok(())
-}
-
-// An empty list is for none.
-#[test]
-fn linear_quotients(rt: HostRuntime) -> Result<(), Fail> {
-    let cases: [(&[i128], i32, &[i128]); 5] = [
-        // (x - 3)(x - 1)(x + 2).
-        (&[6, -5, -2, 1], 3, &[-2, 1, 1]),
-        (&[6, -5, -2, 1], -2, &[3, -4, 1]),
-        (&[6, -5, -2, 1], 2, &[]),
-        (&[0, 0, 1], 0, &[0, 1]),
-        (&[1], 1, &[]),
-    ];
-    for (coefficients, r, expected) in cases {
-        if let Some(poly) = Poly::make(Vec::from_slice(rt.alloc(), coefficients)?) {
-            match divided_by_linear(rt.alloc(), &poly, r)? {
-                Some(quotient) => assert_eq!(rt; quotient.coefficients(), expected),
-                None => assert!(rt; expected.is_empty()),
-            }
-        }
-    }
-    Ok(())
-}
-
-#[test]
-fn quadratic_quotients(rt: HostRuntime) -> Result<(), Fail> {
-    let cases: [(&[i128], i32, i32, &[i128]); 3] = [
-        // (x - 2)(x² + x - 1).
-        (&[2, -3, -1, 1], -1, -1, &[-2, 1]),
-        (&[2, -3, -1, 1], 1, -1, &[]),
-        (&[1], 0, 1, &[]),
-    ];
-    for (coefficients, s, t, expected) in cases {
-        if let Some(poly) = Poly::make(Vec::from_slice(rt.alloc(), coefficients)?) {
-            match divided_by_quadratic(rt.alloc(), &poly, s, t)? {
-                Some(quotient) => assert_eq!(rt; quotient.coefficients(), expected),
-                None => assert!(rt; expected.is_empty()),
-            }
-        }
     }
     Ok(())
 }

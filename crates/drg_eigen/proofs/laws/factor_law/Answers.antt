@@ -1,5 +1,5 @@
 use Rattle.drg_eigen.proofs.Irreducible.{divides_or_not, irreducibles_are_prime}
-use Rattle.drg_eigen.proofs.Products.{factors_commute, degrees_add, factors_of_product, factors_divide}
+use Rattle.drg_eigen.proofs.FactorProducts.{factors_commute, degrees_add, factors_of_product, factors_divide}
 use Rattle.drg_eigen.proofs.FullProducts.{factors_of_full_product}
 use Rattle.drg_eigen.proofs.laws.factor_law.Goals as goal
 

@@ -1,6 +1,6 @@
 use Rattle.drg_algebra.specs.Kinds.{ring_of}
 use Rattle.drg_eigen.proofs.Christoffel.{christoffel_darboux_holds, quotient_form_holds, confluent_holds, confluent_quotient_form_holds, at_dual_holds}
-use Rattle.drg_eigen.proofs.Values.{chain_gives_values_holds}
+use Rattle.drg_eigen.proofs.PolynomialValues.{chain_gives_values_holds}
 use Rattle.drg_eigen.proofs.laws.recurrence_law.Goals as goal
 
 pub returns : goal.returns

@@ -6,13 +6,13 @@ use Rattle.drg_eigen.specs.Monic.{IsMonic}
 use Rattle.drg_eigen.proofs.Quotients.{by_x, begins}
 use Rattle.drg_eigen.proofs.quotient.divided_by_x.Goals as goal
 
-pub returns-then-coefficients-ne0-clause-divided : goal.returns-then-coefficients-ne0-clause-divided
-returns-then-coefficients-ne0-clause-divided c =
+pub returns-then-coefficients-ne0 : goal.returns-then-coefficients-ne0
+returns-then-coefficients-ne0 c =
     λ d. c.if-coefficients-ne0.true
     (ap (λ (l : List ℤ). of_z w128 (get_or l 0 (pos 0))) (c.coefficients-coefficients.ensures.items ∙ sym (sym (by_x d.0) ∙ d.1)))
 
-pub returns-clause-divided : goal.returns-clause-divided
-returns-clause-divided c =
+pub returns : goal.returns
+returns c =
     let f = c.coefficients-coefficients.result.now in
     let head : get_or c.coefficients-coefficients.result.now 0 (pos 0) ≡ pos 0 =
     sym (to_z-of_z w128 (get_or c.coefficients-coefficients.result.now 0 (pos 0)) (search rules)) ∙ ap (to_z w128) c.if-coefficients-ne0.false in

@@ -1,8 +1,8 @@
 use Rattle.std.proofs.Common.{◌≡◌, ℕ, ◌-◌, take, length, refl, ap, sym, ◌∙◌, List, ℤ}
 use Rattle.std.specs.Prelude.{vec_len}
 use Rattle.drg_eigen.specs.Step.{factor_of, but_last, shortened}
-use Rattle.drg_eigen.specs.declared.quotient.Divisor.{Divisor}
-use Rattle.drg_eigen.specs.declared.quotient.Divisor.TheVariants.{Linear, Quadratic}
+use Rattle.drg_eigen.specs.declared.divisor.Divisor.{Divisor}
+use Rattle.drg_eigen.specs.declared.divisor.Divisor.TheVariants.{Linear, Quadratic}
 use Rattle.drg_eigen.proofs.Quotients.{taken}
 use Rattle.drg_eigen.proofs.quotient.shorten.Goals as goal
 

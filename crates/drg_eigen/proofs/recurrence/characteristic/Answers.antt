@@ -1,7 +1,15 @@
 use Rattle.std.proofs.Common.{suc, subst, sym}
+use Rattle.std.specs.List.{AllByRecursion}
+use Rattle.drg_whole.specs.Range.{InRange}
 use Rattle.drg_eigen.specs.Monic.{IsMonic}
 use Rattle.drg_eigen.proofs.Coefficients.{is_monic}
 use Rattle.drg_eigen.proofs.recurrence.characteristic.Goals as goal
+
+pub next_polynomial-requires-clause-before_in_range : goal.next_polynomial-requires-clause-before_in_range
+next_polynomial-requires-clause-before_in_range c = subst (AllByRecursion InRange) (sym c.deref.ensures.value) c.polynomials.invariant.before_in_range
+
+pub next_polynomial-requires-clause-last_in_range : goal.next_polynomial-requires-clause-last_in_range
+next_polynomial-requires-clause-last_in_range c = subst (AllByRecursion InRange) (sym c.deref-in-polynomials.ensures.value) c.polynomials.invariant.in_range
 
 pub of_coefficients-requires : goal.of_coefficients-requires
 of_coefficients-requires c =

@@ -4,7 +4,7 @@ use Rattle.std.proofs.lemmas.Int.{to_z-of_z}
 use mir.Val.{to_z, of_z}
 use mir.Syntax.{w128}
 use Rattle.drg_eigen.specs.Fits.{IsFirstWide, next_coefficient}
-use Rattle.drg_eigen.specs.Monic.{IsInRange}
+use Rattle.drg_whole.specs.Range.{InRange}
 use Rattle.drg_eigen.specs.Work.{next_fits}
 use Rattle.drg_eigen.proofs.Coefficients.{tabulate, one_more, all_more, polynomial_is}
 use Rattle.drg_eigen.proofs.Ranges.{value_in, two_cases, one_fits_more, first_wide, all_fit}
@@ -26,14 +26,14 @@ coefficients-preserved c =
     let made = next_coefficient a c.args.j g f in
     let one : suc c.coefficients.t ≡ c.coefficients.t + 1 = omega arith in
     let items = c.in_ok-push.ensures.items in
-    let x : to_z w128 (of_z w128 c.in-Some.coefficient) ≡ next_coefficient c.args.array.now c.args.j c.args.before.now c.args.last.now c.coefficients.t =
-    to_z-of_z w128 c.in-Some.coefficient (search rules) ∙ c.in-Some.ensures.1 in
+    let x : to_z w128 (of_z w128 c.in-Ok.coefficient.value) ≡ next_coefficient c.args.array.now c.args.j c.args.before.now c.args.last.now c.coefficients.t =
+    to_z-of_z w128 c.in-Ok.coefficient.value (search rules) ∙ c.in-Ok.ensures.1 in
     record {
       items = items ∙ (ap₂ (λ (l : List ℤ) (z : ℤ). l ++ z ∷ []) c.coefficients.invariant.items x ∙ (one_more c.coefficients.t made ∙ ap (λ (n : ℕ). tabulate n made) one));
-      in_range = subst (AllByRecursion IsInRange) (sym items)
-          (all_more IsInRange _ _ c.coefficients.invariant.in_range (subst IsInRange (sym x) (value_in a c.args.j g f c.coefficients.t c.in-Some.ensures.0)));
+      in_range = subst (AllByRecursion InRange) (sym items)
+          (all_more InRange _ _ c.coefficients.invariant.in_range (subst InRange (sym x) (value_in a c.args.j g f c.coefficients.t c.in-Ok.ensures.0)));
       fits = λ t less. elim (two_cases t c.coefficients.t (omega (arith, less))) [
-        | inl same ↦ subst (λ (n : ℕ). next_fits a c.args.j g f n ≡ true) (sym same) c.in-Some.ensures.0
+        | inl same ↦ subst (λ (n : ℕ). next_fits a c.args.j g f n ≡ true) (sym same) c.in-Ok.ensures.0
         | inr below ↦ c.coefficients.invariant.fits t below
       ];
     }
