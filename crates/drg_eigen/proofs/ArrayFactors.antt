@@ -5,8 +5,9 @@ use Rattle.std.proofs.lemmas.Int.{ints}
 use Rattle.drg_algebra.specs.Integer.{above_times}
 use Rattle.drg_array.specs.Entries.{Entries, IsArray, diameter, b_at, c_at, a_at}
 use Rattle.drg_array.proofs.EntryLemmas.{b-positive, c-positive}
-use Rattle.drg_eigen.specs.Characteristic.{weight_at}
+use Rattle.drg_eigen.specs.Characteristic.{weight_at, characteristic}
 use Rattle.drg_eigen.specs.Factor.{linear, quadratic}
+use Rattle.drg_eigen.specs.Simple.{IsSimple}
 use Rattle.drg_eigen.specs.FactorLaws.{IsPositive, NoDoubleLinear, NoDoubleQuadratic, QuadraticsAreReal}
 use Rattle.drg_eigen.proofs.SimpleFactors.{no_double_factor_of_chain, quadratics_of_chain_are_real}
 
@@ -26,3 +27,6 @@ no_double_quadratic a s t array = no_double_factor_of_chain (a_at a) (weight_at 
 
 pub quadratics_are_real : QuadraticsAreReal
 quadratics_are_real a s t array = quadratics_of_chain_are_real (a_at a) (weight_at a) (diameter a) (weights_are_positive a array) s t
+
+pub characteristic_is_simple : (a : Entries) → IsArray a → IsSimple (characteristic a)
+characteristic_is_simple a array = record { once = no_double_factor_of_chain (a_at a) (weight_at a) (diameter a) (weights_are_positive a array); real = λ s t. quadratics_are_real a s t array }

@@ -8,6 +8,7 @@ ghost use Rattle.drg_eigen.specs.Characteristic.{characteristic as the_character
 ghost use Rattle.drg_eigen.specs.Fits.{AllFit, AllFitBelow, IsFault, coefficient as the_coefficient, coefficient_before as the_coefficient_before, next_coefficient as the_next_coefficient};
 ghost use Rattle.drg_whole.specs.Range.{Gives, InRange};
 ghost use Rattle.drg_whole.specs.Whole.{value_of};
+ghost use Rattle.drg_eigen.specs.Simple.{IsSimple};
 ghost use Rattle.drg_eigen.specs.Work.{next_fits};
 ghost use Rattle.drg_eigen.specs.declared.fault.EigenFault.TheVariants as fault;
 
@@ -21,6 +22,7 @@ use std::alloc::Global;
 /// F_j with a product or a difference above 2^127 - 1 in magnitude.
 pub fn characteristic(alloc: Global, array: &Array) -> Result<Poly, EigenFault>
     ensures polynomial { IfOk result (λ p. p ≡ the_characteristic array.now) }
+    ensures simple { IfOk result (λ p. IsSimple p) }
     ensures fits { IfOk result (λ p. AllFit array.now) }
     ensures fault { IfErr result (IsFault array.now) }
 {
@@ -53,7 +55,7 @@ fn next_polynomial(
     ensures reached { IfOk result (λ next. AllFitBelow array.now (suc (suc (suc j)))) }
     ensures fault { IfErr result (IsFault array.now) }
 {
-    let _ = array.d();
+    array.known_valid();
     let mut next = Vec::new(alloc);
     'coefficients: for t in 0..j + 3 {
         let Ok(coefficient) = next_coefficient(array, j, before, last, t) else {
@@ -88,7 +90,7 @@ fn next_coefficient(
     ensures { Gives value_of result (next_fits array.now j before.now last.now t)
         (the_next_coefficient array.now j before.now last.now t) }
 {
-    let _ = array.d();
+    array.known_valid();
     let a = Whole::new(i128::from(array.a(j + 1)));
     let first = coefficient_before(last, t).less_product(a, coefficient(last, t))?;
     let weight = Whole::from(array.b(j)).times(Whole::from(array.c(j + 1)))?;
