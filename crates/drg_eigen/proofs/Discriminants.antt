@@ -12,6 +12,7 @@ use Rattle.drg_eigen.specs.Factor.{discriminant}
 use Rattle.drg_algebra.specs.Integer.{suc_above}
 use Rattle.drg_algebra.specs.Root.{IsSquarefree}
 use Rattle.drg_algebra.proofs.Divisors.{one_squarefree_part}
+use Rattle.drg_eigen.proofs.SmallNumbers.{small}
 
 one_is_squarefree : IsSquarefree 1
 one_is_squarefree = record { free = λ k h d. omega (arith, le_of_dvd (omega arith) d, mul-le 2 2 k k h h) }
@@ -49,10 +50,6 @@ irreducible_test f root d e above whole same free =
     (λ h m square. test.0 h (root_of_square f root d m above (whole ∙ same) free square), λ none. test.1 (λ one. none (pos f) (square_of_root f root d (whole ∙ same) one)))
 
 -- ---- in 64 bits
-small : (s : ℤ) → FitsSigned w32 s → unsigned_abs s ≤ 2147483648
-small (pos n) h = let k : n < 2147483648 = h.sfits in omega arith
-small (negsuc n) h = let k : n < 2147483648 = h.sfits in omega arith
-
 square_size : (s : ℤ) → FitsSigned w32 s → unsigned_abs (s *ℤ s) ≤ 2147483648 * 2147483648
 square_size s h = rw (unsigned_abs-mul s s) (mul-le (unsigned_abs s) (unsigned_abs s) 2147483648 2147483648 (small s h) (small s h))
 

@@ -32,6 +32,8 @@ mod RootLists
 mod SortedRoots
 mod SplitTrials
 mod SplitAnswers
+mod OneSplitFault
+mod OneSplit
 mod SumTrials
 mod LinearTrials
 mod QuadraticTrials

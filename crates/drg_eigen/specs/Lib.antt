@@ -20,5 +20,6 @@ pub mod Monic
 pub mod Fits
 pub mod Work
 pub mod FaultLaws
+pub mod SplitLaws
 pub mod Examples
 pub mod FullExamples

@@ -4,6 +4,7 @@ ghost use Rattle.drg_algebra.specs.Kinds.{Kind, ring_of};
 ghost use Rattle.drg_eigen.specs.Examples.{PentagonFactors, PetersenFactors};
 ghost use Rattle.drg_eigen.specs.FullExamples.{AllPentagonFactors, AllPetersenFactors, HeptagonQuotient};
 ghost use Rattle.drg_eigen.specs.FaultLaws.{NoFaultWhereAllFit, OneFault};
+ghost use Rattle.drg_eigen.specs.SplitLaws.{FewerDivisions, NoSplitFaultWhereAllFit, OneSplit, OneSplitFault};
 ghost use Rattle.drg_eigen.specs.RecurrenceLaws.{AtDual, ChainGivesValues, ChristoffelDarboux, Confluent, ConfluentQuotientForm, QuotientForm};
 ghost use Rattle.drg_eigen.specs.FactorLaws.{DegreesAdd, DividesOrNot, FactorsCommute, FactorsDivide, FactorsOfFullProduct, FactorsOfProduct, IrreduciblesArePrime, NoDoubleFactorOfChain, NoDoubleLinear, NoDoubleQuadratic, QuadraticsAreReal, QuadraticsOfChainAreReal};
 
@@ -48,6 +49,15 @@ pub fn factor_law()
 pub fn fault_law()
     ensures one { OneFault }
     ensures none { NoFaultWhereAllFit }
+{}
+
+/// A monic polynomial has one answer of `split_of` and one fault at most, apart from want of memory. It has
+/// none where the divisions that are asked for fit, or those by all candidates.
+pub fn split_law()
+    ensures one { OneSplit }
+    ensures one_fault { OneSplitFault }
+    ensures no_fault { NoSplitFaultWhereAllFit }
+    ensures fewer { FewerDivisions }
 {}
 
 /// The characteristic polynomials of the Petersen graph and of the pentagon, with all their factors, and

@@ -30,7 +30,7 @@ mod values;
 
 pub use factors::{Eigenvalues, Factors};
 pub use fault::EigenFault;
-pub use laws::{example_law, factor_law, fault_law, has_simple_factors, recurrence_law};
+pub use laws::{example_law, factor_law, fault_law, has_simple_factors, recurrence_law, split_law};
 pub use poly::Poly;
 pub use recurrence::characteristic;
 pub use split::{OtherSpectrum, Spectrum, Split, split_of};
