@@ -34,6 +34,7 @@ mod SplitTrials
 mod SplitAnswers
 mod OneSplitFault
 mod OneSplit
+mod SimpleProducts
 mod SumTrials
 mod LinearTrials
 mod QuadraticTrials

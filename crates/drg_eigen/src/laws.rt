@@ -4,7 +4,7 @@ ghost use Rattle.drg_algebra.specs.Kinds.{Kind, ring_of};
 ghost use Rattle.drg_eigen.specs.Examples.{PentagonFactors, PetersenFactors};
 ghost use Rattle.drg_eigen.specs.FullExamples.{AllPentagonFactors, AllPetersenFactors, HeptagonQuotient};
 ghost use Rattle.drg_eigen.specs.FaultLaws.{NoFaultWhereAllFit, OneFault};
-ghost use Rattle.drg_eigen.specs.SplitLaws.{FewerDivisions, NoSplitFaultWhereAllFit, OneSplit, OneSplitFault};
+ghost use Rattle.drg_eigen.specs.SplitLaws.{FewerDivisions, NoSplitFaultWhereAllFit, OneSplit, OneSplitFault, ProductsAreSimple};
 ghost use Rattle.drg_eigen.specs.RecurrenceLaws.{AtDual, ChainGivesValues, ChristoffelDarboux, Confluent, ConfluentQuotientForm, QuotientForm};
 ghost use Rattle.drg_eigen.specs.FactorLaws.{DegreesAdd, DividesOrNot, FactorsCommute, FactorsDivide, FactorsOfFullProduct, FactorsOfProduct, IrreduciblesArePrime, NoDoubleFactorOfChain, NoDoubleLinear, NoDoubleQuadratic, QuadraticsAreReal, QuadraticsOfChainAreReal};
 
@@ -52,12 +52,14 @@ pub fn fault_law()
 {}
 
 /// A monic polynomial has one answer of `split_of` and one fault at most, apart from want of memory. It has
-/// none where the divisions that are asked for fit, or those by all candidates.
+/// none where the divisions that are asked for fit, or those by all candidates. What `split_of` asks of a
+/// polynomial is met by each product of different irreducible factors with real roots.
 pub fn split_law()
     ensures one { OneSplit }
     ensures one_fault { OneSplitFault }
     ensures no_fault { NoSplitFaultWhereAllFit }
     ensures fewer { FewerDivisions }
+    ensures products { ProductsAreSimple }
 {}
 
 /// The characteristic polynomials of the Petersen graph and of the pentagon, with all their factors, and
