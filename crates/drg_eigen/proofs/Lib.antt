@@ -35,6 +35,7 @@ mod SplitAnswers
 mod OneSplitFault
 mod OneSplit
 mod SimpleProducts
+mod MadePolynomials
 mod SumTrials
 mod LinearTrials
 mod QuadraticTrials

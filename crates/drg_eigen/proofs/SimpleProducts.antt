@@ -228,8 +228,7 @@ products_are_simple es all real order = record { once = λ c d. once c d; real =
                 let b = linear r.second in
                 let q = d.0 in
                 let split = two_linear s t r.first r.second r.sum r.number in
-                irreducible_once es all order a tt
-                (
+                irreducible_once es all order a tt (
                   times_factor b (times_factor b q),
                   ap (times_factor a) (sym (factors_commute b a (times_factor b q))) ∙ split (times_factor a (times_factor b q)) ∙ ap (times_factor (quadratic s t)) (split q) ∙ d.1,
                 )

@@ -1,5 +1,7 @@
 //! Polynomials by hand, and the spectra of graphs.
-use crate::{EigenFault, Factors, OtherSpectrum, Poly, Split, characteristic, split_of};
+ghost use Rattle.drg_eigen.specs.Simple.{IsSimple};
+
+use crate::{EigenFault, Factors, OtherSpectrum, Poly, Spectrum, Split, characteristic, split_of};
 use drg_array::{Array, Node};
 use std::alloc::Global;
 use std::process::Abort;
@@ -59,6 +61,16 @@ fn split_text(alloc: Global, text: &[u8]) -> Result<Split, Fail> {
     let array = Array::read(text)?;
     let poly = characteristic(alloc, &array)?;
     Ok(split_of(alloc, &poly, array.valency())?)
+}
+
+// Whether the spectrum has this root, and eigenvalues with these s and f over it.
+fn are_eigenvalues(spectrum: &Spectrum, root: u32, eigenvalues: &[(i32, i32)]) -> bool {
+    let thetas = spectrum.thetas.as_slice();
+    spectrum.root == root
+        && thetas.len() == eigenvalues.len()
+        && thetas.iter().zip(eigenvalues).all(|(theta, (s, f))| {
+            theta.s() == *s && theta.f() == *f && theta.root() == root
+        })
 }
 
 // The spectra of graphs are those of the literature.
@@ -196,15 +208,9 @@ fn spectra(rt: HostRuntime) -> Result<(), Fail> {
     for (text, root, eigenvalues) in cases {
         match split_text(rt.alloc(), text)? {
             Split::Spectrum(spectrum) => {
-                assert_eq!(rt; spectrum.root, root, "{text:?}");
-                let thetas = spectrum.thetas.as_slice();
-                assert_eq!(rt; thetas.len(), eigenvalues.len(), "{text:?}");
-                for (theta, eigenvalue) in thetas.iter().zip(eigenvalues) {
-                    assert_eq!(rt; (theta.s(), theta.f()), *eigenvalue, "{text:?}");
-                    assert_eq!(rt; theta.root(), root, "{text:?}");
-                }
+                assert!(rt; are_eigenvalues(&spectrum, root, eigenvalues), "{text:?}");
             }
-            Split::Other(_) => assert!(rt; false, "{text:?}"),
+            Split::Other(_other) => assert!(rt; false, "{text:?}"),
         }
     }
     Ok(())
@@ -251,24 +257,75 @@ fn rests(rt: HostRuntime) -> Result<(), Fail> {
     Ok(())
 }
 
+// The split of the polynomial with these coefficients, for the valency 5.
+fn split_made(alloc: Global, coefficients: &[i128]) -> Result<Option<Split>, Fail>
+    requires { IsSimple coefficients.now }
+{
+    match Poly::make(Vec::from_slice(alloc, coefficients)?) {
+        None => Ok(None),
+        Some(poly) => Ok(Some(split_of(alloc, &poly, 5)?)),
+    }
+}
+
+// Whether there are two fields, with these factors.
+fn are_two_fields(
+    split: Option<Split>,
+    coefficients: &[&[i128]],
+    one: &[i128],
+    other: &[i128],
+) -> bool {
+    let Some(
+        Split::Other(
+            OtherSpectrum::TwoFields {
+                factors,
+                first,
+                second,
+            },
+        ),
+    ) = split
+    else {
+        return false;
+    };
+    are_factors(&factors, coefficients)
+        && first.coefficients() == one
+        && second.coefficients() == other
+}
+
 #[test]
 fn two_fields(rt: HostRuntime) -> Result<(), Fail> {
     // The Tutte 12-cage: (x - 3) x (x + 3) (x² - 2) (x² - 6).
-    let text = b"{3,2,2,2,2,2;1,1,1,1,1,3}";
-    let Some(
-        OtherSpectrum::TwoFields {
-            factors,
-            first,
-            second,
-        },
-    ) = other_of(rt.alloc(), text)?
-    else {
-        assert!(rt; false);
-        return Ok(());
-    };
-    let coefficients: [&[i128]; 5] = [&[-3, 1], &[0, 1], &[3, 1], &[-2, 0, 1], &[-6, 0, 1]];
-    assert!(rt; are_factors(&factors, &coefficients));
-    assert_eq!(rt; first.coefficients(), [-2, 0, 1].as_slice());
-    assert_eq!(rt; second.coefficients(), [-6, 0, 1].as_slice());
+    let cage = split_text(rt.alloc(), b"{3,2,2,2,2,2;1,1,1,1,1,3}")?;
+    assert!(rt;
+        are_two_fields(
+            Some(cage),
+            &[&[-3, 1], &[0, 1], &[3, 1], &[-2, 0, 1], &[-6, 0, 1]],
+            &[-2, 0, 1],
+            &[-6, 0, 1],
+        )
+    );
+    // (x - 5) (x² - 2) (x² - 3).
+    let made = split_made(rt.alloc(), &[-30, 6, 25, -5, -5, 1])?;
+    assert!(rt;
+        are_two_fields(
+            made,
+            &[&[-5, 1], &[-2, 0, 1], &[-3, 0, 1]],
+            &[-2, 0, 1],
+            &[-3, 0, 1],
+        )
+    );
+    Ok(())
+}
+
+#[test]
+fn one_field(rt: HostRuntime) -> Result<(), Fail> {
+    // (x - 5) (x² - 2) (x² - 8), with the discriminants 8 and 32.
+    match split_made(rt.alloc(), &[-80, 16, 50, -10, -5, 1])? {
+        Some(Split::Spectrum(spectrum)) => {
+            let eigenvalues = [(10, 0), (0, 4), (0, 2), (0, -2), (0, -4)];
+            assert!(rt; are_eigenvalues(&spectrum, 2, &eigenvalues));
+        }
+        Some(Split::Other(_other)) => assert!(rt; false),
+        None => assert!(rt; false),
+    }
     Ok(())
 }
