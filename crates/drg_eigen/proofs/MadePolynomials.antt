@@ -1,8 +1,8 @@
 -- The polynomials of tests are simple: (x - 5) (x² - 2) (x² - 3) and (x - 5) (x² - 2) (x² - 8).
-use Rattle.std.proofs.Common.{◌≡◌, ℕ, zero, suc, ◌*◌, sym, ◌∙◌, arith, ℤ, pos, negsuc, List, [], ◌∷◌, inr, refl}
+use Rattle.std.proofs.Common.{◌≡◌, ℕ, zero, suc, ◌*◌, sym, ◌∙◌, arith, ℤ, pos, negsuc, [], ◌∷◌, inr, refl}
 use Rattle.std.specs.Prelude.{◌*ℤ◌, ◌<ℤ◌, neg_ℤ, unsigned_abs}
 use Rattle.std.proofs.lemmas.Int.{ints}
-use Rattle.drg_eigen.specs.Factor.{Factor, linear, quadratic}
+use Rattle.drg_eigen.specs.Factor.{linear, quadratic}
 use Rattle.drg_eigen.specs.Order.{ComesBefore}
 use Rattle.drg_eigen.specs.Simple.{IsSimple}
 use Rattle.drg_eigen.proofs.Discriminants.{square_is, pos_inside}

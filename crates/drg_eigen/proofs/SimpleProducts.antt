@@ -1,16 +1,14 @@
 -- A product of different irreducible factors with real roots is simple.
 use Rattle.std.proofs.Common.{◌≡◌, ℕ, zero, suc, ◌+◌, ◌*◌, ◌<◌, ◌≤◌, refl, ap, ap₂, sym, ◌∙◌, subst, arith, ℤ, pos, negsuc, List, [], ◌∷◌, ◌⊎◌, inl, inr}
-use Rattle.std.specs.Prelude.{◌+ℤ◌, ◌*ℤ◌, ◌<ℤ◌, neg_ℤ, unsigned_abs}
+use Rattle.std.specs.Prelude.{◌+ℤ◌, ◌*ℤ◌, neg_ℤ, unsigned_abs}
 use Rattle.std.specs.List.{AllByRecursion}
 use Rattle.std.proofs.lemmas.Bool.{cases_lt}
 use Rattle.std.proofs.lemmas.Int.{ints}
 use Rattle.std.proofs.lemmas.Nat.{mul-le}
-use Rattle.drg_algebra.specs.Integer.{integers, whole_numbers}
+use Rattle.drg_algebra.specs.Integer.{integers}
 use Rattle.drg_algebra.specs.Ring.{none, one, ◌⊕◌, ◌⊗◌, neg, ring2, ring3, ring4, ring5}
-use Rattle.drg_eigen.specs.Polynomial.{add, scale}
-use Rattle.drg_eigen.specs.Factor.{Factor, linear, quadratic, discriminant, times_factor, product, Divides, DividesTwice, IsAmong, IsIrreducible, AreIrreducible}
+use Rattle.drg_eigen.specs.Factor.{Factor, linear, quadratic, discriminant, times_factor, product, DividesTwice, IsAmong, IsIrreducible, AreIrreducible}
 use Rattle.drg_eigen.specs.Order.{ComesBefore, AreInOrder}
-use Rattle.drg_eigen.specs.Simple.{IsSimple}
 use Rattle.drg_eigen.specs.SplitLaws.{HasRealRoots, ProductsAreSimple}
 use Rattle.drg_eigen.proofs.Cancelling.{factor_cancels}
 use Rattle.drg_eigen.proofs.Discriminants.{square_is}

@@ -27,10 +27,12 @@ pub record MayDivide (h : List ℤ) (s t : ℤ) : Type 0 where
   pub at_minus_one : ValueFits (negsuc 0) h → Divides ((pos 1 +ℤ s) +ℤ t) (value_at (negsuc 0) h)
 
 -- ---- the search of a polynomial
+-- the candidates x - r for valency k
 abbrev pub IsLinearCandidate : ℕ → Factor → Type 0
 IsLinearCandidate k (linear r) = IsCandidate k (linear r)
 IsLinearCandidate k (quadratic s t) = ⊥
 
+-- the candidates x² - s x + t for valency k
 abbrev pub IsQuadraticCandidate : ℕ → Factor → Type 0
 IsQuadraticCandidate k (linear r) = ⊥
 IsQuadraticCandidate k (quadratic s t) = IsCandidate k (quadratic s t)
@@ -40,9 +42,10 @@ abbrev pub IsAsked : ℕ → List ℤ → Factor → Type 0
 IsAsked k f (linear r) = Unit {0}
 IsAsked k f (quadratic s t) = (rs : List Factor) × (h : List ℤ) × IsSearch (IsLinearCandidate k) f rs h × MayDivide h s t
 
+-- each division that is asked for fits
 abbrev pub AllDivisionsFit : ℕ → List ℤ → Type 0
 AllDivisionsFit k f = EachFits (IsCandidate k) (IsAsked k f) f
 
--- the cause of a fault: the first division that is asked for and doesn't fit
+-- the cause of a fault of a split: it names the first division that is asked for and doesn't fit
 abbrev pub IsSplitFault : ℕ → List ℤ → EigenFault → Type 0
 IsSplitFault k f = IsSearchFault (IsCandidate k) (IsAsked k f) f

@@ -45,7 +45,7 @@ times_factor (quadratic s t) f = times_quadratic whole_numbers s t f
 abbrev pub Divides : Factor → List ℤ → Type 0
 Divides c f = (q : List ℤ) × (times_factor c q ≡ f)
 
--- it divides it, and the quotient too
+-- the factor divides the polynomial, and the quotient too
 abbrev pub DividesTwice : Factor → List ℤ → Type 0
 DividesTwice c f = (q : List ℤ) × (times_factor c (times_factor c q) ≡ f)
 

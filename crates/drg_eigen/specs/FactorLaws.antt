@@ -8,15 +8,15 @@ use Rattle.drg_eigen.specs.Characteristic.{characteristic}
 use Rattle.drg_eigen.specs.Factor.{Factor, linear, quadratic, IsIrreducible, degree, times_factor, Divides, DividesTwice, product, IsAmong, AreIrreducible}
 
 -- ---- factors of the characteristic polynomial of an array
--- no x - r divides it twice
+-- no x - r divides the characteristic polynomial of an array twice
 abbrev pub NoDoubleLinear : Type 0
 NoDoubleLinear = (a : Entries) (r : ℤ) → IsArray a → ¬ (DividesTwice (linear r) (characteristic a))
 
--- no x² - s x + t divides it twice, irreducible or not
+-- no x² - s x + t divides the characteristic polynomial of an array twice, irreducible or not
 abbrev pub NoDoubleQuadratic : Type 0
 NoDoubleQuadratic = (a : Entries) (s t : ℤ) → IsArray a → ¬ (DividesTwice (quadratic s t) (characteristic a))
 
--- each irreducible x² - s x + t that divides it has s² > 4 t, so that its roots are real
+-- each irreducible x² - s x + t that divides the characteristic polynomial of an array has s² > 4 t, so that its roots are real
 abbrev pub QuadraticsAreReal : Type 0
 QuadraticsAreReal = (a : Entries) (s t : ℤ) → IsArray a → IsIrreducible (quadratic s t) → Divides (quadratic s t) (characteristic a) → (pos 4 *ℤ t) <ℤ (s *ℤ s)
 
@@ -40,10 +40,11 @@ DividesOrNot = (c : Factor) (f : List ℤ) → degree c ≤ length f → Divides
 abbrev pub IrreduciblesArePrime : Type 0
 IrreduciblesArePrime = (c e : Factor) (f : List ℤ) → IsIrreducible c → IsIrreducible e → degree c ≤ length f → Divides c (times_factor e f) → (c ≡ e) ⊎ Divides c f
 
--- factors can be taken in any order, and degrees add
+-- factors can be taken in any order
 abbrev pub FactorsCommute : Type 0
 FactorsCommute = (c e : Factor) (f : List ℤ) → times_factor c (times_factor e f) ≡ times_factor e (times_factor c f)
 
+-- the degree of a product is the sum of the degrees
 abbrev pub DegreesAdd : Type 0
 DegreesAdd = (c : Factor) (f : List ℤ) → length (times_factor c f) ≡ degree c + length f
 
@@ -51,6 +52,7 @@ DegreesAdd = (c : Factor) (f : List ℤ) → length (times_factor c f) ≡ degre
 abbrev pub FactorsOfProduct : Type 0
 FactorsOfProduct = (c : Factor) (es : List Factor) (g : List ℤ) → IsIrreducible c → AreIrreducible es → degree c ≤ length g → Divides c (product es g) → IsAmong c es ⊎ Divides c g
 
+-- the factors in a product divide it, and so do those of the rest
 abbrev pub FactorsDivide : Type 0
 FactorsDivide = (c : Factor) (es : List Factor) (g : List ℤ) → IsAmong c es ⊎ Divides c g → Divides c (product es g)
 

@@ -13,7 +13,7 @@ use Rattle.drg_eigen.specs.declared.fault.EigenFault.TheVariants.{Wide, Memory}
 abbrev pub coefficient : List ℤ → ℕ → ℤ
 coefficient f t = slice_index_or f t (pos 0)
 
--- that of x^(t-1), and 0 for t = 0
+-- the coefficient of x^(t-1), and 0 for t = 0
 abbrev pub coefficient_before : List ℤ → ℕ → ℤ
 coefficient_before f zero = pos 0
 coefficient_before f (suc t) = coefficient f t
@@ -26,7 +26,7 @@ first_difference a j f t = coefficient_before f t -ℤ a_at a (suc j) *ℤ coeff
 abbrev pub next_coefficient : Entries → ℕ → List ℤ → List ℤ → ℕ → ℤ
 next_coefficient a j g f t = first_difference a j f t -ℤ weight_at a (suc j) *ℤ coefficient g t
 
--- its products and differences, where an absent term is 0 and asks nothing more
+-- the products and differences of a coefficient of F_(j+2), where an absent term is 0 and asks nothing more
 abbrev pub work_numbers : Entries → ℕ → List ℤ → List ℤ → ℕ → List ℤ
 work_numbers a j g f t =
     (a_at a (suc j) *ℤ coefficient f t)
@@ -42,11 +42,11 @@ Fits a zero = Unit {0}
 Fits a (suc zero) = Unit {0}
 Fits a (suc (suc j)) = (t : ℕ) → t ≤ suc (suc j) → AllByRecursion InRange (work_numbers a j (polynomial a j) (polynomial a (suc j)) t)
 
--- those of F_0 to F_(n-1) fit
+-- the formulas of F_0 to F_(n-1) fit
 abbrev pub AllFitBelow : Entries → ℕ → Type 0
 AllFitBelow a n = (j : ℕ) → j < n → Fits a j
 
--- those of F_0 to F_(d+1) fit
+-- the formulas of F_0 to F_(d+1) fit
 abbrev pub AllFit : Entries → Type 0
 AllFit a = AllFitBelow a (suc (suc (diameter a)))
 
@@ -56,7 +56,7 @@ pub record IsFirstWide (a : Entries) (j : ℕ) : Type 0 where
   pub before : AllFitBelow a j
   pub wide : ¬ Fits a j
 
--- the cause of a fault
+-- the cause of a fault: it names the first F_j whose formula doesn't fit
 abbrev pub IsFault : Entries → EigenFault → Type 0
 IsFault a (Wide (Poly j)) = IsFirstWide a j
 IsFault a (Wide node) = ⊥

@@ -10,12 +10,13 @@ abbrev pub IsFirstNotOver : ℕ → List Factor → Factor → Type 0
 IsFirstNotOver root [] e = ⊥
 IsFirstNotOver root (d ∷ ds) e = ((d ≡ e) × (¬ IsOver root d)) ⊎ (IsOver root d × IsFirstNotOver root ds e)
 
--- x is r, and x is (s + f √root) / 2 with f² root = s² - 4 t and another f than 0
+-- x is the whole number r
 pub record IsWholeRoot (root : ℕ) (r : ℤ) (x : Eigenvalue) : Type 0 where
   pub over : x.root ≡ root
   pub first : x.s ≡ pos 2 *ℤ r
   pub second : x.f ≡ pos 0
 
+-- x is (s + f √root) / 2 with f² root = s² - 4 t and another f than 0
 pub record IsHalfRoot (root : ℕ) (s t : ℤ) (x : Eigenvalue) : Type 0 where
   pub over : x.root ≡ root
   pub first : x.s ≡ s
@@ -32,7 +33,7 @@ AreRootsOf root (quadratic s t ∷ es) [] = ⊥
 AreRootsOf root (quadratic s t ∷ es) (x ∷ []) = ⊥
 AreRootsOf root (quadratic s t ∷ es) (x ∷ y ∷ xs) = IsHalfRoot root s t x × IsHalfRoot root s t y × (y.f ≡ neg_ℤ x.f) × AreRootsOf root es xs
 
--- the roots of one more factor stand at the end
+-- a list of roots, and at its end the roots of one more factor
 pub record HasMore (root : ℕ) (c : Factor) (old new : List Eigenvalue) : Type 0 where
   pub more : List Eigenvalue
   pub roots : AreRootsOf root (c ∷ []) more

@@ -22,10 +22,11 @@ IsBefore IsTried c e = IsTried e × ComesBefore e c
 abbrev pub IsLeftAt : (Factor → Type 0) → List ℤ → Factor → List ℤ → Type 0
 IsLeftAt IsTried f c g = (es : List Factor) × IsSearch (IsBefore IsTried c) f es g
 
--- its division by c fits, and doesn't
+-- the division by c of what is left of f at c fits
 abbrev pub FitsAt : (Factor → Type 0) → List ℤ → Factor → Type 0
 FitsAt IsTried f c = (g : List ℤ) × IsLeftAt IsTried f c g × DivisionFits c g
 
+-- that division doesn't fit
 abbrev pub IsWideAt : (Factor → Type 0) → List ℤ → Factor → Type 0
 IsWideAt IsTried f c = (g : List ℤ) × IsLeftAt IsTried f c g × (¬ DivisionFits c g)
 
@@ -33,14 +34,14 @@ IsWideAt IsTried f c = (g : List ℤ) × IsLeftAt IsTried f c g × (¬ DivisionF
 abbrev pub EachFits : (IsTried IsAsked : Factor → Type 0) → List ℤ → Type 0
 EachFits IsTried IsAsked f = (c : Factor) → IsTried c → IsAsked c → FitsAt IsTried f c
 
--- c is the first of them whose division doesn't fit
+-- c is the first of the tried factors that are asked for whose division doesn't fit
 pub record IsFirstWideDivision (IsTried IsAsked : Factor → Type 0) (f : List ℤ) (c : Factor) : Type 0 where
   pub tried : IsTried c
   pub asked : IsAsked c
   pub wide : IsWideAt IsTried f c
   pub before : (e : Factor) → IsTried e → IsAsked e → ComesBefore e c → FitsAt IsTried f e
 
--- a fault names that division
+-- the cause of a fault of a search: it names the first division that doesn't fit
 abbrev pub IsSearchFault : (IsTried IsAsked : Factor → Type 0) → List ℤ → EigenFault → Type 0
 IsSearchFault IsTried IsAsked f (Wide node) = (c : Factor) × (node ≡ node_of c) × IsFirstWideDivision IsTried IsAsked f c
 IsSearchFault IsTried IsAsked f Memory = Unit {0}

@@ -24,7 +24,7 @@ pub record AreFactors (k : ℕ) (f : List ℤ) (es : List Factor) : Type 0 where
 abbrev pub IsProduct : List ℤ → List Factor → Type 0
 IsProduct f es = product es (pos 1 ∷ []) ≡ f
 
--- it isn't, and g is the quotient, which no candidate divides
+-- the product of the factors isn't f: g is the quotient of f by them, which no candidate divides
 pub record IsRest (k : ℕ) (f : List ℤ) (es : List Factor) (g : List ℤ) : Type 0 where
   pub factors : AreFactors k f es
   pub quotient : product es g ≡ f
@@ -59,6 +59,7 @@ abbrev pub IsOver : ℕ → Factor → Type 0
 IsOver root (linear r) = Unit {0}
 IsOver root (quadratic s t) = (m : ℤ) × ((m *ℤ m) *ℤ pos root ≡ discriminant s t)
 
+-- the factor is an x - r
 abbrev pub IsLinear : Factor → Type 0
 IsLinear (linear r) = Unit {0}
 IsLinear (quadratic s t) = ⊥

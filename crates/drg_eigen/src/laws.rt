@@ -51,9 +51,9 @@ pub fn fault_law()
     ensures none { NoFaultWhereAllFit }
 {}
 
-/// A monic polynomial has one answer of `split_of` and one fault at most, apart from want of memory. It has
-/// none where the divisions that are asked for fit, or those by all candidates. What `split_of` asks of a
-/// polynomial is met by each product of different irreducible factors with real roots.
+/// A monic polynomial has one answer of `split_of` and one fault at most, apart from want of memory. It
+/// has none where the divisions that are asked for fit, or those by all candidates. What `split_of` asks
+/// of a polynomial is met by each product of different irreducible factors with real roots.
 pub fn split_law()
     ensures one { OneSplit }
     ensures one_fault { OneSplitFault }

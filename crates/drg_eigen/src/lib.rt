@@ -1,17 +1,19 @@
-//! The characteristic polynomial of an intersection array, and its factors.
+//! The characteristic polynomial of an intersection array, its factors and its spectrum.
 //!
 //! `characteristic` gives the polynomial F_(d+1) of an array of diameter d, whose roots are the
 //! eigenvalues, or names the first F_j with a number on the way above 2^127 - 1 in magnitude. A `Poly`
-//! is a monic polynomial with whole coefficients. `divided_by_linear` and `divided_by_quadratic` divide it
-//! by `x - r` and by `x² - sx + t` where that is possible, or name the division where it has a number on
-//! the way above 2^127 - 1 in magnitude.
+//! is a monic polynomial with whole coefficients. `split_of` takes its factors `x - r` and `x² - sx + t`
+//! off and gives the spectrum, all eigenvalues over one root from the largest down, or the certificate
+//! that no one quadratic field holds them. Or it names the first division on the way that has a number
+//! above 2^127 - 1 in magnitude.
 //!
 //! `specs/Characteristic.antt` defines the polynomials F_j of an array, `specs/Fits.antt` when the
-//! formula of an F_j fits, `specs/Factor.antt` the factors `x - r` and `x² - sx + t`,
-//! `specs/Division.antt` their quotients and when a division fits, and `specs/Spectrum.antt` all factors
-//! among the candidates for a valency. The functions without code promise laws: the identity of
-//! Christoffel and Darboux (`specs/RecurrenceLaws.antt`), and that no factor divides a characteristic
-//! polynomial twice (`specs/FactorLaws.antt`).
+//! formula of an F_j fits, `specs/Factor.antt` the factors and the candidates among them,
+//! `specs/Division.antt` their quotients and when a division fits, `specs/Candidates.antt` which
+//! divisions the search asks for, and `specs/Spectrum.antt` and `specs/Split.antt` its answers. The
+//! functions without code promise laws: the identity of Christoffel and Darboux
+//! (`specs/RecurrenceLaws.antt`), that no factor divides a characteristic polynomial twice
+//! (`specs/FactorLaws.antt`), and that there is one answer (`specs/SplitLaws.antt`).
 #![tactic(auto)]
 
 mod discriminant;

@@ -49,7 +49,8 @@ impl Search {
     pub fn try_linears(&mut self, alloc: Global, k: u16) -> Result<(), EigenFault>
         requires { IsSimple self.old.left }
         ensures tried { OnOk result (HasTried (IsLinearCandidate k) IsAnything self.old self.new) }
-        ensures fault { IfErr result (IsSearchFault (IsLinearCandidate k) IsAnything self.old.left) }
+        ensures fault { IfErr result
+            (IsSearchFault (IsLinearCandidate k) IsAnything self.old.left) }
     {
         let most = u32::from(k);
         'linears: for steps in 0..2 * most + 1 {

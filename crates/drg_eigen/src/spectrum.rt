@@ -86,7 +86,8 @@ pub fn roots(alloc: Global, found: &[Divisor], root: u32) -> Result<Vec<Eigenval
     requires found { AllByRecursion IsReal (factors_of found.now) }
     requires order { AreInOrder (factors_of found.now) }
     requires root { IsCommonRoot (factors_of found.now) root }
-    ensures { IfOk result (λ xs. AreRoots (product (factors_of found.now) (pos 1 ∷ [])) root xs.items) }
+    ensures { IfOk result (λ xs.
+        AreRoots (product (factors_of found.now) (pos 1 ∷ [])) root xs.items) }
 {
     let mut roots = unsorted_roots(alloc, found, root)?;
     roots.sort()?;
