@@ -267,6 +267,24 @@ fn split_made(alloc: Global, coefficients: &[i128]) -> Result<Option<Split>, Fai
     }
 }
 
+#[test]
+fn wide_division(rt: HostRuntime) -> Result<(), Fail> {
+    // The quotient by x² - 96x - 1 grows with each coefficient, and no division before it is too wide.
+    let text = b"{60,32,26,25,24,20,16,12,8,6,4,2;1,2,3,4,5,6,7,8,9,10,11,12}";
+    let array = Array::read(text)?;
+    let poly = characteristic(rt.alloc(), &array)?;
+    match split_of(rt.alloc(), &poly, array.valency()) {
+        Ok(_split) => assert!(rt; false),
+        Err(fault) => assert_eq!(rt;
+            fault,
+            EigenFault::Wide {
+                node: Node::Quadratic { s: 96, t: -1 },
+            }
+        ),
+    }
+    Ok(())
+}
+
 // Whether there are two fields, with these factors.
 fn are_two_fields(
     split: Option<Split>,
