@@ -84,10 +84,10 @@ same_square f g e = go (whole_domain (f +ℤ neg_ℤ g) (f +ℤ g)
 -- a root that isn't 0 can be cancelled
 squares_over : (root : ℕ) (m n : ℤ) → ¬ (pos root ≡ pos 0) → m *ℤ pos root ≡ n *ℤ pos root → m ≡ n
 squares_over root m n some e = go (whole_domain (m +ℤ neg_ℤ n) (pos root)
-    (ring3' m n (pos root) ∙ ap (λ (z : ℤ). z +ℤ neg_ℤ (n *ℤ pos root)) e ∙ integers.plus_minus (n *ℤ pos root)))
+    (less_times m n (pos root) ∙ ap (λ (z : ℤ). z +ℤ neg_ℤ (n *ℤ pos root)) e ∙ integers.plus_minus (n *ℤ pos root)))
   where
-    ring3' : (m n k : ℤ) → (m +ℤ neg_ℤ n) *ℤ k ≡ m *ℤ k +ℤ neg_ℤ (n *ℤ k)
-    ring3' m n k = ring3 integers (λ m n k. (m ⊕ neg n) ⊗ k) (λ m n k. m ⊗ k ⊕ neg (n ⊗ k)) refl m n k
+    less_times : (m n k : ℤ) → (m +ℤ neg_ℤ n) *ℤ k ≡ m *ℤ k +ℤ neg_ℤ (n *ℤ k)
+    less_times m n k = ring3 integers (λ m n k. (m ⊕ neg n) ⊗ k) (λ m n k. m ⊗ k ⊕ neg (n ⊗ k)) refl m n k
 
     equal : m +ℤ neg_ℤ n ≡ pos 0 → m ≡ n
     equal h = omega (arith, ints, h)

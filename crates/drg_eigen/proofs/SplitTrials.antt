@@ -30,16 +30,16 @@ linear_irreducible : (k : ℕ) (c : Factor) → IsLinearCandidate k c → IsIrre
 linear_irreducible k (linear r) h = tt
 linear_irreducible k (quadratic s t) h = absurd h
 
-abbrev IsOne : ℕ → Factor → Type 0
-IsOne k = IsEither (IsLinearCandidate k) (IsQuadraticCandidate k)
+abbrev IsEitherCandidate : ℕ → Factor → Type 0
+IsEitherCandidate k = IsEither (IsLinearCandidate k) (IsQuadraticCandidate k)
 
-one_is_candidate : (k : ℕ) (c : Factor) → IsOne k c → IsCandidate k c
+one_is_candidate : (k : ℕ) (c : Factor) → IsEitherCandidate k c → IsCandidate k c
 one_is_candidate k (linear r) (inl h) = h
 one_is_candidate k (linear r) (inr h) = absurd h
 one_is_candidate k (quadratic s t) (inl h) = absurd h
 one_is_candidate k (quadratic s t) (inr h) = h
 
-candidate_is_one : (k : ℕ) (c : Factor) → IsCandidate k c → IsOne k c
+candidate_is_one : (k : ℕ) (c : Factor) → IsCandidate k c → IsEitherCandidate k c
 candidate_is_one k (linear r) h = inl h
 candidate_is_one k (quadratic s t) h = inr h
 
@@ -87,13 +87,13 @@ module _ (k : ℕ) (a b : Search) (monic : IsMonic a.left) (linears : HasTried (
 
   pub all_tried : (c : Search) → HasTried (IsQuadraticCandidate k) (MayBeFactor b.left) b c → HasTried (IsCandidate k) (IsAsked k a.left) a c
   all_tried c quadratics =
-      tried_wider (IsOne k) (IsCandidate k) (one_is_candidate k) (IsAsked k a.left) (IsAsked k a.left) a (λ e h. inl (candidate_is_one k e h)) (λ e p m. m) c
+      tried_wider (IsEitherCandidate k) (IsCandidate k) (one_is_candidate k) (IsAsked k a.left) (IsAsked k a.left) a (λ e h. inl (candidate_is_one k e h)) (λ e p m. m) c
       (tried_joined (IsLinearCandidate k) (IsQuadraticCandidate k) (IsAsked k a.left) (linear_first k) a b asked_linears c
       (fewer_asked (IsQuadraticCandidate k) (MayBeFactor b.left) (IsAsked k a.left) b one_left c quadratics))
 
   pub quadratics_fault : (e : EigenFault) → IsSearchFault (IsQuadraticCandidate k) (MayBeFactor b.left) b.left e → IsSplitFault k a.left e
   quadratics_fault e h =
-      fault_wider (IsOne k) (IsCandidate k) (one_is_candidate k) (IsAsked k a.left) (IsAsked k a.left) a (λ c g. inl (candidate_is_one k c g)) (λ c p m. m) e (λ c p m. m)
+      fault_wider (IsEitherCandidate k) (IsCandidate k) (one_is_candidate k) (IsAsked k a.left) (IsAsked k a.left) a (λ c g. inl (candidate_is_one k c g)) (λ c p m. m) e (λ c p m. m)
       (fault_joined (IsLinearCandidate k) (IsQuadraticCandidate k) (IsAsked k a.left) (linear_first k) a b asked_linears e
       (fault_asked (IsQuadraticCandidate k) (MayBeFactor b.left) (IsAsked k a.left) b one_left e own_search h))
 

@@ -1,4 +1,4 @@
-//! Why an array has no characteristic polynomial here.
+//! Why there is no answer.
 
 ghost use Rattle.std.specs.Prelude.{◌≡◌};
 ghost use Rattle.drg_eigen.specs.declared.fault.EigenFault.TheVariants.{Memory};
@@ -6,10 +6,11 @@ ghost use Rattle.drg_eigen.specs.declared.fault.EigenFault.TheVariants.{Memory};
 use drg_array::Node;
 use std::alloc::{AllocError, AllocFailed};
 
-/// Why an array has no characteristic polynomial here.
+/// Why there is no characteristic polynomial of an array, or no split of a polynomial.
 #[derive(Clone, Copy, Debug, PartialEq, Eq)]
 pub enum EigenFault {
-    /// The first quantity with a work number above 2^127 - 1 in magnitude.
+    /// The first quantity with a number on the way above 2^127 - 1 in magnitude: an F_j, or a
+    /// division.
     Wide { node: Node },
     /// Want of memory.
     Memory,

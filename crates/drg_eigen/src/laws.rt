@@ -8,9 +8,9 @@ ghost use Rattle.drg_eigen.specs.SplitLaws.{FewerDivisions, NoSplitFaultWhereAll
 ghost use Rattle.drg_eigen.specs.RecurrenceLaws.{AtDual, ChainGivesValues, ChristoffelDarboux, Confluent, ConfluentQuotientForm, QuotientForm};
 ghost use Rattle.drg_eigen.specs.FactorLaws.{DegreesAdd, DividesOrNot, FactorsCommute, FactorsDivide, FactorsOfFullProduct, FactorsOfProduct, IrreduciblesArePrime, NoDoubleFactorOfChain, NoDoubleLinear, NoDoubleQuadratic, QuadraticsAreReal, QuadraticsOfChainAreReal};
 
-/// The coefficients of the polynomials F_j of a recurrence give their values, which obey the identity
-/// of Christoffel and Darboux: without divisions, with quotients, and its confluent form. The slopes
-/// in that form are the derivatives, by the value at a dual number.
+/// The coefficients of the polynomials F_j of a recurrence give their values, which obey the
+/// identity of Christoffel and Darboux: without divisions, with quotients, and its confluent form.
+/// The slopes in that form are the derivatives, by the value at a dual number.
 pub fn recurrence_law()
     ensures values { (k : Kind) → ChainGivesValues (ring_of k) }
     ensures division_free { (k : Kind) → ChristoffelDarboux (ring_of k) }
@@ -20,9 +20,9 @@ pub fn recurrence_law()
     ensures at_dual { (k : Kind) → AtDual (ring_of k) }
 {}
 
-/// No `x - r` and no `x² - sx + t` divides the characteristic polynomial of an array twice, and each
-/// irreducible `x² - sx + t` that divides it has `s² > 4t`. The same holds of each recurrence with
-/// positive weights.
+/// No `x - r` and no `x² - sx + t` divides the characteristic polynomial of an array twice, and
+/// each irreducible `x² - sx + t` that divides it has `s² > 4t`. The same holds of each recurrence
+/// with positive weights.
 pub fn has_simple_factors()
     ensures linear { NoDoubleLinear }
     ensures quadratic { NoDoubleQuadratic }
@@ -31,9 +31,9 @@ pub fn has_simple_factors()
     ensures recurrence_real { QuadraticsOfChainAreReal }
 {}
 
-/// Whether a factor divides can be told. An irreducible factor that divides a product of irreducible
-/// ones and a polynomial is one of them or divides the polynomial. One that divides a product of
-/// irreducible ones is among them.
+/// Whether a factor divides can be told. An irreducible factor that divides a product of
+/// irreducible ones and a polynomial is one of them or divides the polynomial. One that divides a
+/// product of irreducible ones is among them.
 pub fn factor_law()
     ensures told { DividesOrNot }
     ensures prime { IrreduciblesArePrime }
@@ -44,16 +44,17 @@ pub fn factor_law()
     ensures divide { FactorsDivide }
 {}
 
-/// An array has one fault at most, apart from want of memory, and none where the formulas of all its
-/// polynomials fit.
+/// An array has one fault at most, apart from want of memory, and none where the formulas of all
+/// its polynomials fit.
 pub fn fault_law()
     ensures one { OneFault }
     ensures none { NoFaultWhereAllFit }
 {}
 
-/// A monic polynomial has one answer of `split_of` and one fault at most, apart from want of memory. It
-/// has none where the divisions that are asked for fit, or those by all candidates. What `split_of` asks
-/// of a polynomial is met by each product of different irreducible factors with real roots.
+/// A monic polynomial has one answer of `split_of` and one fault at most, apart from want of
+/// memory. It has none where the divisions that are asked for fit, or those by all candidates. What
+/// `split_of` asks of a polynomial is met by each product of different irreducible factors with
+/// real roots.
 pub fn split_law()
     ensures one { OneSplit }
     ensures one_fault { OneSplitFault }
@@ -62,8 +63,8 @@ pub fn split_law()
     ensures products { ProductsAreSimple }
 {}
 
-/// The characteristic polynomials of the Petersen graph and of the pentagon, with all their factors, and
-/// a factor of that of the heptagon, by hand.
+/// The characteristic polynomials of the Petersen graph and of the pentagon, with all their
+/// factors, and a factor of that of the heptagon, by hand.
 pub fn example_law()
     ensures petersen { PetersenFactors }
     ensures pentagon { PentagonFactors }

@@ -1,11 +1,11 @@
 //! The characteristic polynomial of an intersection array, its factors and its spectrum.
 //!
 //! `characteristic` gives the polynomial F_(d+1) of an array of diameter d, whose roots are the
-//! eigenvalues, or names the first F_j with a number on the way above 2^127 - 1 in magnitude. A `Poly`
-//! is a monic polynomial with whole coefficients. `split_of` takes its factors `x - r` and `x² - sx + t`
-//! off and gives the spectrum, all eigenvalues over one root from the largest down, or the certificate
-//! that no one quadratic field holds them. Or it names the first division on the way that has a number
-//! above 2^127 - 1 in magnitude.
+//! eigenvalues, or names the first F_j with a number on the way above 2^127 - 1 in magnitude. A
+//! `Poly` is a monic polynomial with whole coefficients. `split_of` takes its factors `x - r` and
+//! `x² - sx + t` off and gives the spectrum, all eigenvalues over one root from the largest down,
+//! or the certificate that no one quadratic field holds them. Or it names the first division on the
+//! way that has a number above 2^127 - 1 in magnitude.
 //!
 //! `specs/Characteristic.antt` defines the polynomials F_j of an array, `specs/Fits.antt` when the
 //! formula of an F_j fits, `specs/Factor.antt` the factors and the candidates among them,

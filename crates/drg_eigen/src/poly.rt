@@ -8,8 +8,8 @@ ghost use Rattle.drg_eigen.specs.Monic.{IsMonic, IsPoly};
 use std::alloc::{AllocError, Global};
 use std::marker::Model;
 
-/// A monic polynomial with whole coefficients from -(2^127 - 1) to 2^127 - 1, seen as the list of its
-/// coefficients from the constant upwards.
+/// A monic polynomial with whole coefficients from -(2^127 - 1) to 2^127 - 1, seen as the list of
+/// its coefficients from the constant upwards.
 #[derive(Drop, Debug)]
 pub struct Poly {
     coefficients: Vec<i128>,
@@ -27,8 +27,8 @@ impl Model for Poly {
 }
 
 impl Poly {
-    /// The polynomial of these coefficients, from the constant upwards. There is none where the last
-    /// one isn't 1, or one is `i128::MIN`. Takes no memory.
+    /// The polynomial of these coefficients, from the constant upwards. There is none where the
+    /// last one isn't 1, or one is `i128::MIN`. Takes no memory.
     pub fn make(coefficients: Vec<i128>) -> Option<Poly>
         ensures some { IsSome result ↔ IsPoly coefficients.items }
         ensures value { IfSome result (λ p. p ≡ coefficients.items) }

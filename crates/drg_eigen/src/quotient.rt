@@ -13,8 +13,8 @@ use drg_whole::{Whole, Wide};
 use std::alloc::{AllocError, Global};
 
 /// The polynomial over the divisor, or none where the divisor doesn't divide it. A fault names the
-/// division, where it has a number above 2^127 - 1 in magnitude before a coefficient of the quotient
-/// isn't whole.
+/// division, where it has a number above 2^127 - 1 in magnitude before a coefficient of the
+/// quotient isn't whole.
 pub fn divided_by(alloc: Global, poly: &Poly, divisor: Divisor) -> Result<Option<Poly>, EigenFault>
     requires { IsDivisor (factor_of divisor) }
     ensures divided { IfOk result (IsDivided (factor_of divisor) poly.now) }

@@ -18,8 +18,8 @@ use drg_array::{Array, Node};
 use drg_whole::{Whole, Wide};
 use std::alloc::Global;
 
-/// The characteristic polynomial F_(d+1) of the array, where d is its diameter. A fault names the first
-/// F_j with a product or a difference above 2^127 - 1 in magnitude.
+/// The characteristic polynomial F_(d+1) of the array, where d is its diameter. A fault names the
+/// first F_j with a product or a difference above 2^127 - 1 in magnitude.
 pub fn characteristic(alloc: Global, array: &Array) -> Result<Poly, EigenFault>
     ensures polynomial { IfOk result (λ p. p ≡ the_characteristic array.now) }
     ensures simple { IfOk result (λ p. IsSimple p) }

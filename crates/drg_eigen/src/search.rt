@@ -60,8 +60,8 @@ impl Search {
         Ok(())
     }
 
-    /// Tries the irreducible x² - sx + t with s from 2k down to -2k and t from k² down to -k², where no
-    /// candidate x - r divides what is left.
+    /// Tries the irreducible x² - sx + t with s from 2k down to -2k and t from k² down to -k²,
+    /// where no candidate x - r divides what is left.
     pub fn try_quadratics(&mut self, alloc: Global, k: u16) -> Result<(), EigenFault>
         requires simple { IsSimple self.old.left }
         requires valency { k ≤ 4095 }

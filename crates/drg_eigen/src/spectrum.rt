@@ -16,8 +16,8 @@ use crate::divisor::Divisor;
 use drg_quadratic::Eigenvalue;
 use std::alloc::{AllocError, Global};
 
-/// The root over which the roots of all divisors lie, which is 0 where no divisor is quadratic. Or the
-/// first quadratic divisor and the first one with roots in another field.
+/// The root over which the roots of all divisors lie, which is 0 where no divisor is quadratic. Or
+/// the first quadratic divisor and the first one with roots in another field.
 pub fn common_root(found: &[Divisor]) -> Result<u32, (Divisor, Divisor)>
     requires { AllByRecursion IsReal (factors_of found.now) }
     ensures { MatchResult result

@@ -51,11 +51,11 @@ pub enum Split {
     Other(OtherSpectrum),
 }
 
-/// Splits the polynomial into its factors among the candidates for a valency k: the `x - r` with r from
-/// k down to -k, then the irreducible `x² - sx + t` with s from 2k down to -2k, then t from k² down to
-/// -k². A fault names the first division that is asked for and has a number above 2^127 - 1 in
-/// magnitude. No division is made by an `x² - sx + t` without real roots, nor where its values at 0, 1
-/// and -1 don't divide those of the polynomial without its factors `x - r`.
+/// Splits the polynomial into its factors among the candidates for a valency k: the `x - r` with r
+/// from k down to -k, then the irreducible `x² - sx + t` with s from 2k down to -2k, then t from k²
+/// down to -k². A fault names the first division that is asked for and has a number above 2^127 - 1
+/// in magnitude. No division is made by an `x² - sx + t` without real roots, nor where its values
+/// at 0, 1 and -1 don't divide those of the polynomial without its factors `x - r`.
 pub fn split_of(alloc: Global, poly: &Poly, k: u16) -> Result<Split, EigenFault>
     requires valency { k ≤ 4095 }
     requires simple { IsSimple poly.now }
