@@ -31,12 +31,12 @@ pub struct Spectrum {
 /// Why no one quadratic field holds all eigenvalues.
 #[derive(Drop, Debug)]
 pub enum OtherSpectrum {
-    /// The factors of degree 1 and 2, and what is left without them.
+    /// The factors among the candidates, and what is left without them, which isn't 1.
     Rest {
         factors: Factors,
         rest: Poly,
     },
-    /// All factors, and two quadratic ones with roots in different fields.
+    /// All factors, the first quadratic one, and the first one with roots in another field than it.
     TwoFields {
         factors: Factors,
         first: Poly,
