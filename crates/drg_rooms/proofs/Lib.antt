@@ -1,0 +1,13 @@
+pub mod StepLaws
+pub mod TrailLaws
+pub mod TermLaws
+pub mod TermSteps
+pub mod RoomLaws
+pub mod ModLaws
+pub mod CombLaws
+pub mod AddLaws
+pub mod OrderLaws
+pub mod Keeping
+pub mod HandLaws
+pub mod StoreLaws
+pub mod OneStep

@@ -1,0 +1,11 @@
+pub mod Steps
+pub mod Indices
+pub mod Trails
+pub mod Content
+pub mod Values
+pub mod Moduli
+pub mod Combinations
+pub mod Stores
+pub mod Lines
+pub mod Answers
+pub mod Laws
