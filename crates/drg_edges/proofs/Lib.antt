@@ -1,0 +1,16 @@
+pub mod Bits
+pub mod Order
+pub mod AnswerLaws
+pub mod Reaching
+pub mod Regularity
+pub mod Sets
+pub mod Lines
+pub mod TextLaws
+pub mod PairByPair
+pub mod Neighbours
+pub mod LayerByLayer
+pub mod Noted
+pub mod Arrays
+pub mod Numbers
+pub mod Connected
+pub mod Differences

@@ -1,0 +1,10 @@
+use Rattle.std.proofs.Common.{◌≡◌, ℕ, ◌<◌, ◌≤◌, length, slice_index}
+use Rattle.std.specs.Prelude.{bit_or, bit_xor}
+use Rattle.drg_edges.proofs.vertex_set.VertexSet.remove.Given as goal
+
+abbrev pub invariant-words : goal.invariant-words
+invariant-words l = record {
+  long : length l.self.words ≡ 32;
+  made : (w : ℕ) → w < l.place → slice_index l.self.words w ≡ bit_xor (bit_or (slice_index l.initial.self.words w) (slice_index l.other.words w)) (slice_index l.other.words w);
+  left : (w : ℕ) → l.place ≤ w → slice_index l.self.words w ≡ slice_index l.initial.self.words w;
+}

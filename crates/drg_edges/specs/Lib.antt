@@ -1,0 +1,9 @@
+pub mod Text
+pub mod Faults
+pub mod Pairs
+pub mod Answers
+pub mod Laws
+pub mod VertexSets
+pub mod Layers
+pub mod References
+pub mod Reading
