@@ -6,7 +6,7 @@ use Rattle.std.specs.Int.Signed.{lt_z, le_z}
 use Rattle.std.proofs.lemmas.Int.{ints}
 use Rattle.drg_algebra.specs.Ring.{◌⊕◌, ◌⊗◌, neg}
 use Rattle.drg_algebra.specs.Integer.{integers, ring5}
-use Rattle.drg_algebra.proofs.Tests.{both, same-number}
+use Rattle.drg_algebra.proofs.Tests.{same-number}
 use Rattle.drg_linear.specs.Unknowns.{place}
 use Rattle.drg_whole.specs.Residues.{residue, divides}
 use Rattle.drg_linear.specs.Equations.{Term, EquationContent, value_from, Meets}

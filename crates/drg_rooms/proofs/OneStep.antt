@@ -1,14 +1,14 @@
 -- A room that closes in one step holds no solution.
-use Rattle.std.proofs.Common.{◌≡◌, ℕ, zero, suc, ◌<◌, ◌≤◌, ℤ, pos, ◌≤ℤ◌, ◌<ℤ◌, true, false, ◌⊎◌, inl, inr, List, [], ◌∷◌, length, arith}
-use Rattle.std.specs.Prelude.{slice_index_or, Contains}
+use Rattle.std.proofs.Common.{◌≡◌, ℕ, zero, suc, ◌<◌, ◌≤◌, ℤ, pos, ◌≤ℤ◌, ◌<ℤ◌, ◌⊎◌, inl, inr, List, [], ◌∷◌, length, arith}
+use Rattle.std.specs.Prelude.{slice_index_or}
 use Rattle.std.proofs.lemmas.Int.{ints}
 use Rattle.drg_algebra.proofs.Tests.{never}
 use Rattle.drg_linear.specs.Unknowns.{place}
 use Rattle.drg_linear.specs.Equations.{EquationContent, Meets, MeetsAll, value_from}
 use Rattle.drg_linear.specs.declared.bounds.End.TheVariants.{Least, Greatest}
-use Rattle.drg_linear.specs.Rooms.{RoomBounds, InRoom, end_sum}
+use Rattle.drg_linear.specs.Rooms.{end_sum}
 use Rattle.drg_linear.specs.Values.{least_value, greatest_value}
-use Rattle.drg_linear.specs.Closing.{ClosesInOneStep, ByMiss, ByModulus, ByValues, Misses}
+use Rattle.drg_linear.specs.Closing.{ByMiss, ByModulus, ByValues}
 use Rattle.drg_linear.proofs.Sums.{sums_bound_value}
 use Rattle.drg_rooms.specs.Laws.{ClosedHoldsNone}
 use Rattle.drg_rooms.proofs.RoomLaws.{at_least, at_most}

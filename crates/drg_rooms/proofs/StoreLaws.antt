@@ -1,6 +1,6 @@
 -- Equations that are kept once.
-use Rattle.std.proofs.Common.{◌≡◌, ℕ, zero, suc, ◌<◌, ◌≤◌, ◌+◌, Bool, true, false, List, [], ◌∷◌, ◌++◌, length, refl, sym, ap, ◌∙◌, arith, length-append}
-use Rattle.std.specs.Prelude.{slice_index_or, slice_get, if◌then◌else◌, All, Some, map}
+use Rattle.std.proofs.Common.{◌≡◌, ℕ, zero, suc, ◌<◌, Bool, true, false, List, [], ◌∷◌, ◌++◌, length, refl, sym, ◌∙◌, arith, length-append}
+use Rattle.std.specs.Prelude.{slice_index_or, slice_get, if◌then◌else◌, Some}
 use Rattle.std.proofs.lemmas.List.{get_or_append_left, map-append}
 use Rattle.drg_linear.specs.Equations.{EquationContent}
 use Rattle.drg_linear.specs.Sameness.{same_equation}

@@ -1,6 +1,6 @@
 -- The value of terms, and of one term beside the rest.
 use Rattle.std.proofs.Common.{◌≡◌, ℕ, ℤ, ◌*ℤ◌, ◌+ℤ◌, Bool, true, false, List, [], ◌∷◌, arith, refl, ap, ◌∙◌}
-use Rattle.std.specs.Prelude.{◌&&◌, if◌then◌else◌}
+use Rattle.std.specs.Prelude.{if◌then◌else◌}
 use Rattle.std.proofs.lemmas.Int.{ints}
 use Rattle.drg_algebra.proofs.Tests.{both, same-number}
 use Rattle.drg_linear.specs.declared.unknown.Unknown.{Unknown}

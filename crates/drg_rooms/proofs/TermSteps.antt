@@ -1,5 +1,5 @@
 -- Loops over terms: what remains from a place on.
-use Rattle.std.proofs.Common.{◌≡◌, ℕ, ℤ, pos, Bool, true, false, List, [], ◌∷◌, drop, refl, ◌<◌, ◌+◌, length, get_or, add-one, ap, sym, ◌∙◌}
+use Rattle.std.proofs.Common.{◌≡◌, ℕ, ℤ, pos, Bool, true, false, List, ◌∷◌, drop, refl, ◌<◌, ◌+◌, length, get_or, add-one, ap, sym, ◌∙◌}
 use Rattle.std.specs.Prelude.{◌&&◌, ◌-ℤ◌, if◌then◌else◌}
 use Rattle.std.proofs.Math.Seq.{drop-cons}
 use Rattle.drg_algebra.proofs.Tests.{both}
