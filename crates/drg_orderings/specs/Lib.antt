@@ -1,0 +1,4 @@
+pub mod Orderings
+pub mod PPolynomial
+pub mod Search
+pub mod Laws
