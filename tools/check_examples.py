@@ -11,6 +11,8 @@ Usage: python3 tools/check_examples.py
 - Each derivation, and each such report, is accepted by `drg replay` and by tools/replay.py.
 - Each text of examples/refused has the answer of its row in examples/README.md, by both. A text that is
   no derivation is named on standard error by the one, and on standard output by the other.
+- Each list of edges of examples/edges is the one that tools/make_edges.py makes, and has the answer of its
+  row in examples/README.md, by `drg graph` and by tools/graph_answer.py.
 - Each array of examples whose name begins with wide is undecided, by the number that WIDE names.
 - Each fault of FAULTS ends with its line on standard error and its exit number, and nothing is written.
 - examples/petersen.txt and examples/degree.txt are copies of the files of their names further down.
@@ -27,6 +29,8 @@ import tempfile
 from pathlib import Path
 from typing import NamedTuple
 
+from make_edges import made
+
 TOP = Path(__file__).resolve().parent.parent
 EXAMPLES = TOP / "examples"
 ALWAYS_RUN = ["first", "degree", "order", "cross", "size", "intersect"]
@@ -41,6 +45,7 @@ WIDE = {
 COPIES = {"petersen": "graphs", "degree": "fails"}
 ROW = re.compile(r"\| [^|]+ \| `(?P<file>\w+)` \| `(?P<array>\{[\d,;]+\})` \| (?P<n>\d+) \|")
 REFUSED_ROW = re.compile(r"\| `(?P<file>\w+)` \| `(?P<answer>(?:rejected|undecided|bad input,)[^`]+)` \|")
+EDGES_ROW = re.compile(r"\| [^|]+ \| `(?P<file>\w+)` \| `(?P<answer>(?:array|single|apart|differ|far)\b[^`]*)` \|")
 EXAMPLE = re.compile(r"^\.EX\n\$ (?P<command>.*)\n(?P<printed>(?:.*\n)*?)\.EE$", re.MULTILINE)
 SURVIVOR, INFEASIBLE, UNDECIDED, ACCEPTED, REJECTED, BAD_INPUT = 0, 1, 3, 0, 5, 65
 CANNOT_BUILD = 70
@@ -55,14 +60,21 @@ FAULTS = [
     ("echo '{3,2;1}' | $drg check /dev/stdin", "bad input, line 1, place 7", BAD_INPUT),
     ("$drg check /dev/null", "bad input, line 1, place 1", BAD_INPUT),
     ("$drg replay examples/petersen.txt", "bad input, line 1, place 0", BAD_INPUT),
+    ("$drg graph", "usage", 64),
+    ("$drg graph examples/petersen.txt", "bad input, line 1, place 0", BAD_INPUT),
+    ("printf 'graph 3\\n1 1\\n' | $drg graph /dev/stdin", "bad input, line 2, place 0", BAD_INPUT),
     ("head -c 67108865 /dev/zero | $drg check /dev/stdin", "input too long", 66),
     ("head -c 67108865 /dev/zero | $drg replay /dev/stdin", "input too long", 66),
+    ("head -c 67108865 /dev/zero | $drg graph /dev/stdin", "input too long", 66),
     ("$drg check examples/nothing.txt", "cannot open", 67),
     ("$drg replay examples/nothing.txt", "cannot open", 67),
+    ("$drg graph examples/nothing.txt", "cannot open", 67),
     ("$drg check examples", "cannot read", 68),
     ("$drg replay examples", "cannot read", 68),
+    ("$drg graph examples", "cannot read", 68),
     ("$drg check examples/petersen.txt >/dev/full", "cannot write", 69),
     ("$drg replay examples/derivations/size.txt >/dev/full", "cannot write", 69),
+    ("$drg graph examples/edges/cube.txt >/dev/full", "cannot write", 69),
     ("ulimit -v 50000; head -c 60000000 /dev/zero | $drg check /dev/stdin", "no memory", 71),
 ]
 LIMIT_SECONDS = 3600
@@ -213,6 +225,21 @@ def refused_cases():
         yield holds(f"tools/replay.py {path}", writes([answer], status), other_replayer(path))
 
 
+def edge_cases():
+    """The lists of edges, by the program and by the other one, against the table."""
+    page = (EXAMPLES / "README.md").read_text(encoding="utf-8")
+    rows = {row["file"]: row["answer"] for row in EDGES_ROW.finditer(page)}
+    same = rows.keys() == names_in("edges") == made().keys()
+    yield is_true("examples/README.md: its table has each file of examples/edges and no other", same)
+    for file, text in made().items():
+        yield is_true(f"examples/edges/{file}.txt: is the list that is made", content(f"edges/{file}") == text)
+    for file, answer in sorted(rows.items()):
+        path = f"examples/edges/{file}.txt"
+        status = ACCEPTED if answer.startswith("array ") else REJECTED
+        yield holds(f"drg graph {path}", writes([answer], status), drg("graph", path))
+        yield holds(f"tools/graph_answer.py {path}", writes([answer], 0), run(sys.executable, "tools/graph_answer.py", path))
+
+
 def fault_cases():
     """The faults of a run, each with its line."""
     for command, line, status in FAULTS:
@@ -254,7 +281,17 @@ def main():
         print("0 passed, 1 failed")
         return 1
     passed = failed = 0
-    groups = (graph_cases, failing_cases, replay_cases, refused_cases, wide_cases, fault_cases, copy_cases, page_cases)
+    groups = (
+        graph_cases,
+        failing_cases,
+        replay_cases,
+        refused_cases,
+        edge_cases,
+        wide_cases,
+        fault_cases,
+        copy_cases,
+        page_cases,
+    )
     for cases in groups:
         for held in cases():
             if held:

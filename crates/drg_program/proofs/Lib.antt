@@ -1,4 +1,5 @@
 pub mod CheckLemmas
+mod GraphLemmas
 mod InputLemmas
 mod OutputLemmas
 mod ReplayLemmas

@@ -15,7 +15,8 @@ use Rattle.drg_program.specs.Replay.{Tells}
 use Rattle.drg_program.specs.Run.{Answers, Decides, IsAnswerOf, IsBadAt, IsInGrammar, IsOutput}
 use Rattle.drg_program.specs.Statuses.{IsEarly, IsRefusal}
 use Rattle.drg_program.specs.declared.command.Command.{Command}
-use Rattle.drg_program.specs.declared.command.Command.TheVariants.{Check, Replay}
+use Rattle.drg_program.specs.declared.command.Command.TheVariants.{Check, Replay, Graph}
+use Rattle.drg_program.proofs.GraphLemmas as graph
 use Rattle.drg_program.specs.declared.status.Status.{Status}
 use Rattle.drg_program.specs.declared.status.Status.TheVariants.{Usage, BadInput, TooLong, OpenFault, ReadFault, WriteFault, Memory}
 
@@ -35,6 +36,7 @@ told claim (Err fault.Memory) status text file h = absurd h
 is_answer : (command : Command) (bytes : List ℕ) (status : Status) (text : List ℕ) → IsOutput command bytes status text → IsAnswerOf status command
 is_answer (Check tests file) bytes status text h = subst (λ (s : Status). IsAnswerOf s (Check tests file)) (sym h.told) (judged h.verdict tests file)
 is_answer (Replay file) bytes status text h = told h.derivation.claim (answer_of h.derivation) status text file h.concludes.tells
+is_answer (Graph file) bytes status text h = graph.told h.answer status file h.told
 
 -- and no refusal
 no_refusal : (status : Status) (command : Command) → IsAnswerOf status command → IsRefusal status → ⊥
@@ -69,10 +71,12 @@ whole command bytes status text old new short output appended = (short, (text, o
 in_grammar : (command : Command) (bytes : List ℕ) (status : Status) (text : List ℕ) → IsOutput command bytes status text → IsInGrammar command bytes
 in_grammar (Check tests file) bytes status text h = (h.array, h.read)
 in_grammar (Replay file) bytes status text h = (h.n, h.derivation, h.begins)
+in_grammar (Graph file) bytes status text h = (h.graph, h.read)
 
 not_in_grammar : (command : Command) (bytes : List ℕ) (line at : ℕ) → IsBadAt command bytes line at → IsInGrammar command bytes → ⊥
 not_in_grammar (Check tests file) bytes line at (one, (none, kind, fault)) (a, is) = none a is
 not_in_grammar (Replay file) bytes line at (zero, (none, refused)) (n, δ, begins) = none n δ begins
+not_in_grammar (Graph file) bytes line at (zero, (none, fault)) (g, read) = none (g, read)
 
 written : (command : Command) (bytes : List ℕ) (status : Status) (text : List ℕ) → IsWithinLimit bytes → IsOutput command bytes status text
     → Decides command bytes status

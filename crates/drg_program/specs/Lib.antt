@@ -4,4 +4,6 @@ pub mod Input
 pub mod Check
 pub mod AnswerText
 pub mod Replay
+pub mod GraphText
+pub mod Graph
 pub mod Run

@@ -6,11 +6,12 @@ use Rattle.drg_array.specs.Entries.{Entries}
 use Rattle.drg_derivation.specs.Content.{Content}
 use Rattle.drg_derivation.specs.Text.{Begins}
 use Rattle.drg_program.specs.Check.{Checks, IsArrayOf, IsFaultAt}
+use Rattle.drg_program.specs.Graph.{AnswersGraph, IsFaultInEdges, ListsEdges}
 use Rattle.drg_program.specs.Input.{IsTooLong, IsWithinLimit}
 use Rattle.drg_program.specs.Replay.{IsFaultInLine, Replays}
 use Rattle.drg_program.specs.Words.{file_of}
 use Rattle.drg_program.specs.declared.command.Command.{Command}
-use Rattle.drg_program.specs.declared.command.Command.TheVariants.{Check, Replay}
+use Rattle.drg_program.specs.declared.command.Command.TheVariants.{Check, Replay, Graph}
 use Rattle.drg_program.specs.declared.output.Output.{Output}
 use Rattle.drg_program.specs.declared.output.EarlyRefusal.{EarlyRefusal}
 use Rattle.drg_program.specs.declared.output.EarlyRefusal.TheVariants as refusal
@@ -21,16 +22,19 @@ use Rattle.drg_program.specs.declared.status.Status.TheVariants.{Survivor, Infea
 abbrev pub IsInGrammar : Command → List ℕ → Type 0
 IsInGrammar (Check tests file) bytes = (a : Entries) × IsArrayOf bytes a
 IsInGrammar (Replay file) bytes = (n : ℕ) × (δ : Content) × Begins bytes n δ
+IsInGrammar (Graph file) bytes = ListsEdges bytes
 
 -- the bytes aren't in that grammar, and the first fault is in this line and place, where place 0 is the whole line
 abbrev pub IsBadAt : Command → List ℕ → ℕ → ℕ → Type 0
 IsBadAt (Check tests file) bytes line at = (line ≡ 1) × IsFaultAt bytes at
 IsBadAt (Replay file) bytes line at = (at ≡ 0) × IsFaultInLine bytes line
+IsBadAt (Graph file) bytes line at = (at ≡ 0) × IsFaultInEdges bytes line
 
 -- the status of these bytes, and the text that is written
 abbrev pub IsOutput : Command → List ℕ → Status → List ℕ → Type 0
 IsOutput (Check tests file) bytes status text = Checks bytes tests status text
 IsOutput (Replay file) bytes status text = Replays bytes status text
+IsOutput (Graph file) bytes status text = AnswersGraph bytes status text
 
 -- the status is an answer of the command, and no refusal
 abbrev pub IsAnswerOf : Status → Command → Type 0
@@ -40,6 +44,8 @@ IsAnswerOf Undecided (Check tests file) = ⊤
 IsAnswerOf Accepted (Replay file) = ⊤
 IsAnswerOf Rejected (Replay file) = ⊤
 IsAnswerOf Undecided (Replay file) = ⊤
+IsAnswerOf Accepted (Graph file) = ⊤
+IsAnswerOf Rejected (Graph file) = ⊤
 IsAnswerOf status command = ⊥
 
 -- what a command makes of all bytes of its input: the status and the text, or the first fault in them

@@ -6,7 +6,7 @@ use Rattle.drg_array.specs.TestLists.{IsTestList}
 use Rattle.drg_array.specs.declared.test.Test.{Test}
 use Rattle.drg_array.specs.declared.test_set.TheConstants.{BUILT}
 use Rattle.drg_program.specs.declared.command.Command.{Command}
-use Rattle.drg_program.specs.declared.command.Command.TheVariants.{Check, Replay}
+use Rattle.drg_program.specs.declared.command.Command.TheVariants.{Check, Replay, Graph}
 
 -- the bytes of each word
 abbrev pub words_of : List (String Global) → List (List ℕ)
@@ -29,6 +29,7 @@ IsListedCheck tests file words =
 abbrev pub AreWordsOf : Command → List (List ℕ) → Type 0
 AreWordsOf (Check tests file) words = IsFileName file × (IsWholeCheck tests file words ⊎ IsListedCheck tests file words)
 AreWordsOf (Replay file) words = IsFileName file × (words ≡ codes "replay" ∷ file ∷ [])
+AreWordsOf (Graph file) words = IsFileName file × (words ≡ codes "graph" ∷ file ∷ [])
 
 -- the words are those of a command
 abbrev pub IsCommand : List (List ℕ) → Type 0
@@ -38,6 +39,7 @@ IsCommand words = (command : Command) × AreWordsOf command words
 abbrev pub file_of : Command → Option (List ℕ)
 file_of (Check tests file) = Some file
 file_of (Replay file) = Some file
+file_of (Graph file) = Some file
 
 -- the words are those of one command, with one list of tests, on one file
 abbrev pub OneCommand : Type 0

@@ -35,6 +35,8 @@ pub enum Command<'a> {
     Check { tests: TestSet, file: FileName<'a> },
     /// Answer the derivation at the front of the file.
     Replay { file: FileName<'a> },
+    /// Tell the array of the graph whose edges the file lists, or why it has none.
+    Graph { file: FileName<'a> },
 }
 
 /// The command of these words.
@@ -73,6 +75,7 @@ fn command_named<'a>(name: &str, file: &'a str) -> Option<Command<'a>>
             file,
         }),
         "replay" => Some(Command::Replay { file }),
+        "graph" => Some(Command::Graph { file }),
         _ => None,
     }
 }

@@ -4,8 +4,10 @@
 //! says what each [`Status`] means of the input, when each refusal comes, and which bytes were written.
 //! The words stand in `specs/Words.antt`, the input and why it can't be had in `specs/Input.antt`, what
 //! `check` finds of an array in `specs/Check.antt`, what `replay` finds of a derivation in
-//! `specs/Replay.antt` with its line in `specs/AnswerText.antt`, and how these make the answer of a run in
-//! `specs/Run.antt`. The verdicts on an array and their texts are those of `drg_engine` and `drg_report`.
+//! `specs/Replay.antt` with its line in `specs/AnswerText.antt`, what `graph` finds of a graph in
+//! `specs/Graph.antt` with its line in `specs/GraphText.antt`, and how these make the answer of a run in
+//! `specs/Run.antt`. The verdicts on an array and their texts are those of `drg_engine` and `drg_report`,
+//! and the answers on a graph are those of `drg_edges`.
 //!
 //! A command is one variant of `Command`, with its options and its file, and one case in each definition
 //! by commands. It reads its file itself, whole or in pieces, and ends with an output or a refusal.
@@ -14,6 +16,8 @@
 mod answer_text;
 mod check;
 mod command;
+mod graph;
+mod graph_text;
 mod input;
 mod output;
 mod replay;
@@ -30,6 +34,7 @@ use check::check;
 pub use command::words_law;
 use command::{Command, command_of};
 use drg_outside::{Inputs, Sink, write_all};
+use graph::graph_file;
 use output::{EarlyRefusal, Output};
 use replay::replay_file;
 pub use status::Status;
@@ -45,7 +50,10 @@ pub const INPUT_LIMIT: usize = 67_108_864;
 /// `infeasible` says that the array fails the claim that is written and no claim before it, that the
 /// derivation that is written is accepted with its class, and, where the class is counting, that no finite
 /// graph is distance-regular with the array. After `replay` they are the answer of the derivation at the
-/// front of the input: `accepted` by counting says of its array, too, that no such graph has it.
+/// front of the input: `accepted` by counting says of its array, too, that no such graph has it. After
+/// `graph` they are the answer on the graph whose edges the input lists: `accepted` says that it is
+/// distance-regular with the array that is written, and `rejected` that it is so with no array, as the
+/// vertices that are written show.
 pub fn run<I: Inputs, K: Sink>(
     alloc: Global,
     words: &[String],
@@ -158,8 +166,11 @@ fn output_of<I: Inputs>(
     match command {
         Command::Check { tests, file } => check(alloc, inputs, file, tests),
         Command::Replay { file } => replay_file(alloc, inputs, file),
+        Command::Graph { file } => graph_file(alloc, inputs, file),
     }
 }
 
+#[cfg(test)]
+mod graph_tests;
 #[cfg(test)]
 mod tests;

@@ -16,9 +16,10 @@ pub enum Status {
     /// A number on which the answer rests is too wide to be computed: a size or an intersection number
     /// of the array, or a work number of a line of the derivation.
     Undecided,
-    /// Each line of the derivation is met, and it closes its claim.
+    /// Each line of the derivation is met, and it closes its claim; or the graph is distance-regular.
     Accepted,
-    /// A line of the derivation isn't met, or its claim isn't closed at the end.
+    /// A line of the derivation isn't met, or its claim isn't closed at the end; or the graph isn't
+    /// distance-regular with any array.
     Rejected,
     /// What was asked for is written whole, and there is no verdict to tell. No command answers it yet.
     Done,

@@ -245,7 +245,7 @@ const REPLAYED: [(&str, Status, &str); 19] = [
 ];
 
 /// One run over a file `f`: what it answers, and what it has written.
-fn run_on(
+pub fn run_on(
     alloc: Global,
     words: &[&str],
     content: &[u8],
@@ -313,25 +313,25 @@ fn replayed_texts(rt: HostRuntime) -> Result<(), Fail> {
 #[test]
 fn calls_that_fail(rt: HostRuntime) -> Result<(), Fail> {
     let alloc = rt.alloc();
-    let cases: [(&str, &[u64], &[u64], Status, &str, &str); 6] = [
-        ("f", &[1], &[], Status::OpenFault, "", ""),
-        ("g", &[], &[], Status::OpenFault, "", ""),
-        ("f", &[2], &[], Status::ReadFault, "", ""),
-        ("f", &[3], &[], Status::ReadFault, "", ""),
-        ("f", &[], &[1], Status::WriteFault, "", ""),
+    let cases: [(&str, &[u64], &[u64], Status, [&str; 3]); 6] = [
+        ("f", &[1], &[], Status::OpenFault, [""; 3]),
+        ("g", &[], &[], Status::OpenFault, [""; 3]),
+        ("f", &[2], &[], Status::ReadFault, [""; 3]),
+        ("f", &[3], &[], Status::ReadFault, [""; 3]),
+        ("f", &[], &[1], Status::WriteFault, [""; 3]),
         (
             "f",
             &[],
             &[2],
             Status::WriteFault,
-            "verdict survivor",
-            "accepted degree ",
+            ["verdict survivor", "accepted degree ", "differ 0 1 1 0 1"],
         ),
     ];
-    for (name, inputs, writes, status, checked, replayed) in cases {
+    for (name, inputs, writes, status, written) in cases {
         for (command, content, written) in [
-            ("check", "{3,2;1,1}\n", checked),
-            ("replay", DEGREE, replayed),
+            ("check", "{3,2;1,1}\n", written[0]),
+            ("replay", DEGREE, written[1]),
+            ("graph", "graph 3\n0 1\n1 2\n", written[2]),
         ] {
             let words = [command, name];
             let (answer, sink) = run_on(alloc, &words, content.as_bytes(), (inputs, writes))?;
@@ -349,7 +349,7 @@ fn calls_that_fail(rt: HostRuntime) -> Result<(), Fail> {
 #[test]
 fn words_that_are_no_command(rt: HostRuntime) -> Result<(), Fail> {
     let alloc = rt.alloc();
-    let cases: [&[&str]; 24] = [
+    let cases: [&[&str]; 29] = [
         &[],
         &[""],
         &["check"],
@@ -370,6 +370,11 @@ fn words_that_are_no_command(rt: HostRuntime) -> Result<(), Fail> {
         &["replay", "f", "f"],
         &["replay", "--tests", "none", "f"],
         &["Replay", "f"],
+        &["graph"],
+        &["graph", "-x"],
+        &["graph", "f", "f"],
+        &["graph", "--tests", "none", "f"],
+        &["Graph", "f"],
         &["table", "f"],
         &["sample", "1", "1"],
         &["--help"],
@@ -399,6 +404,7 @@ fn inputs_around_the_limit(rt: HostRuntime) -> Result<(), Fail> {
         ("check", 67_108_864, Status::BadInput { line: 1, at }),
         ("check", 67_108_865, Status::TooLong),
         ("replay", 67_108_865, Status::TooLong),
+        ("graph", 67_108_865, Status::TooLong),
     ];
     for (command, length, status) in cases {
         let answer = status_on_spaces(rt.alloc(), command, length)?;

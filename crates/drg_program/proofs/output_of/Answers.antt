@@ -16,3 +16,9 @@ returns-in-Replay-clause-output g c =
     let P : Command → Type 0 = λ command.
     (bytes : List ℕ) × AreInputOf (g.I.Inputs.files c.args.inputs.now) (file_of command) bytes × Ends command bytes c.replay_file.result in
     subst P (sym c.in-Replay.is) c.replay_file.ensures.output
+
+pub returns-in-Graph-clause-output : goal.returns-in-Graph-clause-output
+returns-in-Graph-clause-output g c =
+    let P : Command → Type 0 = λ command.
+    (bytes : List ℕ) × AreInputOf (g.I.Inputs.files c.args.inputs.now) (file_of command) bytes × Ends command bytes c.graph_file.result in
+    subst P (sym c.in-Graph.is) c.graph_file.ensures.output
