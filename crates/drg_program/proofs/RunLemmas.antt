@@ -16,9 +16,9 @@ use Rattle.drg_program.specs.Run.{Answers, Decides, IsAnswerOf, IsBadAt, IsInGra
 use Rattle.drg_program.specs.Statuses.{IsEarly, IsRefusal}
 use Rattle.drg_program.specs.declared.command.Command.{Command}
 use Rattle.drg_program.specs.declared.command.Command.TheVariants.{Check, Replay, Graph}
-use Rattle.drg_program.proofs.GraphLemmas as graph
 use Rattle.drg_program.specs.declared.status.Status.{Status}
 use Rattle.drg_program.specs.declared.status.Status.TheVariants.{Usage, BadInput, TooLong, OpenFault, ReadFault, WriteFault, Memory}
+use Rattle.drg_program.proofs.GraphLemmas as graph
 
 judged : (v : Verdict) (tests : List Test) (file : List ℕ) → IsAnswerOf (status_of v) (Check tests file)
 judged (verdict.Infeasible found) tests file = tt

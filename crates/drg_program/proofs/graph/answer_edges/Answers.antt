@@ -3,7 +3,7 @@ use Rattle.drg_edges.specs.Faults.{IsGraphFault}
 use Rattle.drg_edges.specs.declared.fault.GraphFault.{GraphFault}
 use Rattle.drg_edges.specs.declared.fault.GraphFault.TheVariants.{Bad}
 use Rattle.drg_program.specs.Graph.{IsFaultInEdges}
-use Rattle.drg_program.proofs.GraphLemmas.{answers, fault_in}
+use Rattle.drg_program.proofs.GraphLemmas.{fault_in}
 use Rattle.drg_program.proofs.graph.answer_edges.Goals as goal
 
 pub returns-in-Err-Bad : goal.returns-in-Err-Bad
