@@ -1,10 +1,10 @@
 -- Changes of the room in hand and the way back.
 use Rattle.std.proofs.Common.{◌≡◌, ℕ, zero, suc, ℤ, Bool, true, false, List, [], ◌∷◌, ◌++◌, Option, Some, None, refl, sym, ap, ◌∙◌}
-use Rattle.std.specs.Prelude.{slice_set, reverse, Result, Ok, Err, IsOk, is_ok, if◌then◌else◌}
+use Rattle.std.specs.Prelude.{slice_set, reverse, Result, Ok, Err, IsOk, MatchResult}
 use Rattle.std.proofs.lemmas.List.{reverse-append}
 use Rattle.drg_linear.specs.Rooms.{RoomBounds, Bounds, bounds_at}
 use Rattle.drg_rooms.specs.declared.trail.Change.{Change}
-use Rattle.drg_rooms.specs.Trails.{kept_rooms, rooms_of, with_half}
+use Rattle.drg_rooms.specs.Trails.{kept_rooms, rooms_of, with_half, LeadBack}
 use Rattle.drg_rooms.specs.Lines.{in_hand, kept_of, is_open}
 
 set_back : (room : RoomBounds) (p : ℕ) (b : Bounds) → slice_set (slice_set room p b) p (bounds_at room p) ≡ room
@@ -17,10 +17,23 @@ set_twice [] p b c = refl
 set_twice (a ∷ room) zero b c = refl
 set_twice (a ∷ room) (suc p) b c = ap (λ (r : RoomBounds). a ∷ r) (set_twice room p b c)
 
-pub tightened : (o : Bool) (room : RoomBounds) (cs : List Change) (p : ℕ) (b : Bounds) → is_open (rooms_of o room cs) ≡ true
-    → rooms_of o (slice_set room p b) (record { place = p; before = bounds_at room p; kept = None } ∷ cs) ≡ slice_set (in_hand (rooms_of o room cs)) p b ∷ kept_of (rooms_of o room cs)
-tightened true room cs p b h = ap (λ (r : RoomBounds). slice_set room p b ∷ kept_rooms r cs) (set_back room p b)
-tightened false room cs p b h = cc
+set_same : (room : RoomBounds) (p : ℕ) → slice_set room p (bounds_at room p) ≡ room
+set_same [] p = refl
+set_same (c ∷ room) zero = refl
+set_same (c ∷ room) (suc p) = ap (λ (r : RoomBounds). c ∷ r) (set_same room p)
+
+tightened : (o : Bool) (room : RoomBounds) (cs more : List Change) (p : ℕ) (b before : Bounds) → is_open (rooms_of o room cs) ≡ true → before ≡ bounds_at room p
+    → ((r : RoomBounds) → kept_rooms r more ≡ kept_rooms (slice_set r p before) cs)
+    → rooms_of o (slice_set room p b) more ≡ slice_set (in_hand (rooms_of o room cs)) p b ∷ kept_of (rooms_of o room cs)
+tightened true room cs more p b before h e g =
+    ap (λ (rooms : List RoomBounds). slice_set room p b ∷ rooms)
+    (g (slice_set room p b) ∙ (ap (λ (c : Bounds). kept_rooms (slice_set (slice_set room p b) p c) cs) e ∙ ap (λ (r : RoomBounds). kept_rooms r cs) (set_back room p b)))
+tightened false room cs more p b before h e g = cc
+
+unchanged : (o : Bool) (room : RoomBounds) (cs : List Change) (p : ℕ) → is_open (rooms_of o room cs) ≡ true
+    → rooms_of o room cs ≡ slice_set (in_hand (rooms_of o room cs)) p (bounds_at room p) ∷ kept_of (rooms_of o room cs)
+unchanged true room cs p h = ap (λ (r : RoomBounds). r ∷ kept_rooms room cs) (sym (set_same room p))
+unchanged false room cs p h = cc
 
 pub halved : (o : Bool) (room : RoomBounds) (cs : List Change) (p : ℕ) (high low : ℤ) → is_open (rooms_of o room cs) ≡ true
     → rooms_of o (slice_set room p ((bounds_at room p).0, high)) (record { place = p; before = bounds_at room p; kept = Some low } ∷ cs)
@@ -42,11 +55,19 @@ newest_first cs c = reverse-append cs (c ∷ [])
 
 pub tighten_is : (o : Bool) (room after : RoomBounds) (now : List RoomBounds) (cs more : List Change) (p : ℕ) (b before : Bounds)
     → rooms_of o room (reverse cs) ≡ now → is_open now ≡ true → before ≡ bounds_at room p → after ≡ slice_set room p b
-    → more ≡ cs ++ (record { place = p; before = before; kept = None }) ∷ []
+    → LeadBack cs p before more
     → rooms_of o after (reverse more) ≡ slice_set (in_hand now) p b ∷ kept_of now
 tighten_is o room after now cs more p b before v h e f g =
     let k : is_open (rooms_of o room (reverse cs)) ≡ true = rw v h in
-    rw (f, g, newest_first cs (record { place = p; before = before; kept = None }), e, ← v) (tightened o room (reverse cs) p b k)
+    rw (f, ← v) (tightened o room (reverse cs) (reverse more) p b before k e g.back)
+
+-- bounds that are put where they stand change nothing
+pub unchanged_is : (o : Bool) (room : RoomBounds) (now : List RoomBounds) (cs : List Change) (p : ℕ) (b before : Bounds)
+    → rooms_of o room (reverse cs) ≡ now → is_open now ≡ true → before ≡ bounds_at room p → b ≡ before
+    → now ≡ slice_set (in_hand now) p b ∷ kept_of now
+unchanged_is o room now cs p b before v h e f =
+    let k : is_open (rooms_of o room (reverse cs)) ≡ true = rw v h in
+    rw (f, e, ← v) (unchanged o room (reverse cs) p k)
 
 pub halve_is : (o : Bool) (room after : RoomBounds) (now : List RoomBounds) (cs more : List Change) (p : ℕ) (high low : ℤ) (before : Bounds)
     → rooms_of o room (reverse cs) ≡ now → is_open now ≡ true → before ≡ bounds_at room p → after ≡ slice_set room p (before.0, high)
@@ -61,14 +82,15 @@ with_kept room c low rooms e = ap (λ (k : Option ℤ). with_half k room c rooms
 
 pub took_up : (room after : RoomBounds) (cs rest more : List Change) (c : Change) (low : ℤ)
     → c.kept ≡ Some low → cs ≡ rest ++ c ∷ [] → after ≡ slice_set room c.place (low, c.before.1)
-    → more ≡ rest ++ (record { place = c.place; before = c.before; kept = None }) ∷ []
+    → LeadBack rest c.place c.before more
     → after ∷ kept_rooms after (reverse more) ≡ kept_rooms room (reverse cs)
 took_up room after cs rest more c low k e f g =
-    rw (g, newest_first rest (record { place = c.place; before = c.before; kept = None }), e, newest_first rest c, f)
+    rw (g.back after, e, newest_first rest c, f)
     (ap (λ (r : RoomBounds). slice_set room c.place (low, c.before.1) ∷ kept_rooms r (reverse rest)) (set_twice room c.place (low, c.before.1) c.before)
     ∙ sym (with_kept room c low (kept_rooms (slice_set room c.place c.before) (reverse rest)) k))
 
--- what a push that succeeds leaves
-pub pushed_is : {A E : Type 0} (r : Result A E) (xs ys zs : List Change) → IsOk r → zs ≡ (if is_ok r then xs else ys) → zs ≡ xs
-pushed_is (Ok a) xs ys zs h e = e
-pushed_is (Err a) xs ys zs h e = cc
+-- what a call that succeeds leaves
+pub led_back : {A E : Type 0} (r : Result A E) (cs more : List Change) (p : ℕ) (before : Bounds) → IsOk r
+    → MatchResult r (λ _. LeadBack cs p before more) (λ _. more ≡ cs) → LeadBack cs p before more
+led_back (Ok a) cs more p before h g = g
+led_back (Err a) cs more p before h g = cc

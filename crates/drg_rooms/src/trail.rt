@@ -1,7 +1,7 @@
 //! The open branches, as the room in hand and the changes that lead back from it.
-ghost use Rattle.std.specs.Prelude.{◌≡◌, ◌∷◌, [], true, false, reverse, slice_set, MatchResult};
+ghost use Rattle.std.specs.Prelude.{◌≡◌, ◌<◌, ◌∷◌, [], true, false, reverse, slice_set, MatchResult, IsOk, vec_len, vec_capacity};
 ghost use Rattle.drg_rooms.specs.declared.refusal.Refusal.TheVariants.{NotMet};
-ghost use Rattle.drg_rooms.specs.Trails.{kept_rooms, rooms_of};
+ghost use Rattle.drg_rooms.specs.Trails.{kept_rooms, rooms_of, LeadBack};
 ghost use Rattle.drg_rooms.specs.Lines.{in_hand as the_in_hand, kept_of, is_open as the_is_open};
 ghost use Rattle.drg_rooms.specs.Values.{with_low, with_high, low_raised, high_lowered, raised as the_raised, lowered as the_lowered};
 
@@ -47,6 +47,26 @@ fn put(room: &mut Vec<(i128, i128)>, place: usize, bounds: (i128, i128))
     }
 }
 
+/// Keeps the bounds before a change, where a branch is kept for later. The oldest change is always
+/// one that halved a room, so where there is no change no branch is kept. Where it fails, nothing
+/// has changed.
+fn keep(changes: &mut Vec<Change>, place: usize, before: (i128, i128)) -> Result<(), AllocError>
+    ensures back { MatchResult result
+        (λ _. LeadBack changes.old.items place before changes.new.items)
+        (λ _. changes.new.items ≡ changes.old.items) }
+    ensures free { vec_len changes.old < vec_capacity changes.old → IsOk result }
+{
+    if changes.is_empty() {
+        return Ok(());
+    }
+    changes.push(Change {
+        place,
+        before,
+        kept: None,
+    })?;
+    Ok(())
+}
+
 /// Goes back to the branch kept last, and says whether there is one.
 fn take_up(room: &mut Vec<(i128, i128)>, changes: &mut Vec<Change>) -> bool
     ensures { rooms_of result room.new.items (reverse changes.new.items)
@@ -58,11 +78,7 @@ fn take_up(room: &mut Vec<(i128, i128)>, changes: &mut Vec<Change>) -> bool
             Some(low) => {
                 put(room, change.place, (low, change.before.1));
                 // The place that the change left is free, so this doesn't fail.
-                let _ = changes.push(Change {
-                    place: change.place,
-                    before: change.before,
-                    kept: None,
-                });
+                let _ = keep(changes, change.place, change.before);
                 return true;
             }
         }
@@ -133,11 +149,10 @@ impl Trail {
             (λ _. self.new ≡ self.old) }
     {
         let before = bounds_at(&self.room, place);
-        self.changes.push(Change {
-            place,
-            before,
-            kept: None,
-        })?;
+        if bounds == before {
+            return Ok(());
+        }
+        keep(&mut self.changes, place, before)?;
         put(&mut self.room, place, bounds);
         Ok(())
     }
