@@ -1,95 +1,77 @@
--- One more term at its place.
-use Rattle.std.proofs.Common.{◌≡◌, ℕ, suc, ◌<◌, ◌≤◌, ◌+◌, ℤ, pos, ◌+ℤ◌, Bool, true, false, List, [], ◌∷◌, ◌++◌, length, take, drop, arith, refl, sym, ap, ◌∙◌, add-one, append_assoc}
-use Rattle.std.specs.Prelude.{if◌then◌else◌, slice_set, nat_eq}
-use Rattle.std.specs.Ordering.{int_eq}
-use Rattle.std.proofs.Math.Seq.{drop-cons, take-suc}
-use Rattle.std.proofs.lemmas.List.{set_split, drop_all}
-use Rattle.drg_linear.specs.declared.unknown.Unknown.{Unknown}
+-- Terms and equations that are still to be added.
+use Rattle.std.proofs.Common.{◌≡◌, ℕ, suc, ◌<◌, ◌≤◌, ◌+◌, ℤ, ◌*ℤ◌, Bool, true, false, List, [], ◌∷◌, ◌++◌, length, drop, refl, sym, ap, ◌∙◌, add-one}
+use Rattle.std.specs.Prelude.{◌&&◌, ⊤, Result, Err, nat_eq, slice_index_or}
+use Rattle.std.proofs.lemmas.List.{drop_all}
+use Rattle.std.proofs.Math.Seq.{drop-cons}
+use Rattle.drg_algebra.proofs.Tests.{both}
 use Rattle.drg_whole.specs.Range.{in_range}
-use Rattle.drg_linear.specs.Unknowns.{is_same, precedes}
-use Rattle.drg_linear.specs.Equations.{Term, EquationContent}
-use Rattle.drg_rooms.specs.Combinations.{with_term, with_more, more_fits, term_at, plus_terms, plus_terms_fit, combination_from, combination_fits_from, no_equation, has_pair, are_numbers, StandsAt, WouldStandAt}
+use Rattle.drg_linear.specs.Equations.{Term, EquationContent, follows, is_ordered}
+use Rattle.drg_rooms.specs.Combinations.{with_more, more_fits, plus_terms, plus_terms_fit, combination_from, combination_fits_from, no_equation, has_pair, are_numbers, Passes}
+use Rattle.drg_rooms.specs.declared.fault.Fault.{Fault}
+use Rattle.drg_rooms.specs.declared.fault.Fault.TheVariants.{Refused, Memory}
+use Rattle.drg_rooms.specs.Answers.{Adds, FailsWide}
+use Rattle.drg_rooms.proofs.MergeLaws.{nowhere}
 
--- the unknown's place isn't before place i
-pub record Beyond (u : Unknown) (ts : List Term) (i : ℕ) : Type 0 where
-  pub within : i ≤ length ts
-  pub more : (a : ℤ) → with_more u a ts ≡ take i ts ++ with_more u a (drop i ts)
-  pub fits : (a : ℤ) → more_fits u a ts ≡ more_fits u a (drop i ts)
+-- the terms from place i on are still to be added to those that are left
+pub record AddRemains (f : ℤ) (old total others made left : List Term) (i : ℕ) : Type 0 where
+  pub ordered : is_ordered (drop i others) ≡ true
+  pub fits : plus_terms_fit f total others ≡ plus_terms_fit f left (drop i others)
+  pub value : old ++ plus_terms f total others ≡ made ++ plus_terms f left (drop i others)
 
-pub beyond_none : (u : Unknown) (ts : List Term) → Beyond u ts 0
-beyond_none u ts = record { within = omega arith; more = λ a. refl; fits = λ a. refl }
+follows_times : (t : Term) (a : ℤ) (ts : List Term) → follows t ts ≡ true → follows (t.0, a) ts ≡ true
+follows_times t a [] h = refl
+follows_times t a (u ∷ us) h = h
 
-here : (ts : List Term) (i : ℕ) → i < length ts → drop i ts ≡ term_at ts i ∷ drop (suc i) ts
-here ts i h = drop-cons ts i (record { r = 0; s = 0; t = 0 }, pos 0) h
+fits_on : (f : ℤ) (t : Term) (left ts : List Term) → in_range (f *ℤ t.1) ≡ true → more_fits t.0 (f *ℤ t.1) left ≡ true
+    → plus_terms_fit f left (t ∷ ts) ≡ plus_terms_fit f (with_more t.0 (f *ℤ t.1) left) ts
+fits_on f t left ts h k = rw (h, k) refl
 
-pub beyond_more : (u : Unknown) (ts : List Term) (i : ℕ) → i < length ts → Beyond u ts i → is_same (term_at ts i).0 u ≡ false → precedes u (term_at ts i).0 ≡ false → Beyond u ts (i + 1)
-beyond_more u ts i h b e f = record {
-  within = omega arith;
-  more = λ a.
-      b.more a ∙ (ap (λ (r : List Term). take i ts ++ with_more u a r) (here ts i h)
-      ∙ (skipped a (term_at ts i) (drop (suc i) ts) e f
-      ∙ (sym (append_assoc (take i ts) (term_at ts i ∷ []) (with_more u a (drop (suc i) ts)))
-      ∙ (ap (λ (r : List Term). r ++ with_more u a (drop (suc i) ts)) (sym (take-suc ts i (record { r = 0; s = 0; t = 0 }, pos 0) h))
-      ∙ ap (λ (n : ℕ). take n ts ++ with_more u a (drop n ts)) (sym (add-one i))))));
-  fits = λ a. b.fits a ∙ (ap (λ (r : List Term). more_fits u a r) (here ts i h) ∙ (skipped_fits a (term_at ts i) (drop (suc i) ts) e f ∙ ap (λ (n : ℕ). more_fits u a (drop n ts)) (sym (add-one i))));
-}
+pub added : (f v : ℤ) (old total others made more left next : List Term) (i : ℕ) → i < length others
+    → AddRemains f old total others made left i → in_range (f *ℤ (slice_index_or others i nowhere).1) ≡ true → v ≡ f *ℤ (slice_index_or others i nowhere).1
+    → more_fits (slice_index_or others i nowhere).0 v left ≡ true → Passes (slice_index_or others i nowhere).0 v left made more next
+    → AddRemains f old total others more next (i + 1)
+added f v old total others made more left next i h a k e m p = at (slice_index_or others i nowhere) (drop-cons others i nowhere h) k e m p
   where
-    skipped : (a : ℤ) (t : Term) (rest : List Term) → is_same t.0 u ≡ false → precedes u t.0 ≡ false → take i ts ++ with_more u a (t ∷ rest) ≡ take i ts ++ t ∷ with_more u a rest
-    skipped a t rest e f = rw (e, f) refl
+    at : (t : Term) → drop i others ≡ t ∷ drop (suc i) others → in_range (f *ℤ t.1) ≡ true → v ≡ f *ℤ t.1 → more_fits t.0 v left ≡ true → Passes t.0 v left made more next → AddRemains f old total others more next (i + 1)
+    at t here k e m p =
+        let rest = drop (suc i) others in
+        let ordered : is_ordered (t ∷ rest) ≡ true = sym (ap (λ (ts : List Term). is_ordered ts) here) ∙ a.ordered in
+        let o = both (follows t rest) (is_ordered rest) ordered in
+        let g = follows_times t (f *ℤ t.1) rest o.0 in
+        let n : more_fits t.0 (f *ℤ t.1) left ≡ true = ap (λ (z : ℤ). more_fits t.0 z left) (sym e) ∙ m in
+        let q : Passes t.0 (f *ℤ t.1) left made more next = rw e at p in
+        rw (add-one i) (record {
+          ordered = o.1;
+          fits = a.fits ∙ (ap (λ (ts : List Term). plus_terms_fit f left ts) here ∙ (fits_on f t left rest k n ∙ q.fits f rest g o.1));
+          value = a.value ∙ (ap (λ (ts : List Term). made ++ plus_terms f left ts) here ∙ q.value f rest g o.1);
+        })
 
-    skipped_fits : (a : ℤ) (t : Term) (rest : List Term) → is_same t.0 u ≡ false → precedes u t.0 ≡ false → more_fits u a (t ∷ rest) ≡ more_fits u a rest
-    skipped_fits a t rest e f = rw (e, f) refl
-
-pub stands : (u : Unknown) (ts : List Term) (i : ℕ) → i < length ts → Beyond u ts i → is_same (term_at ts i).0 u ≡ true → StandsAt u ts i
-stands u ts i h b e = record {
-  within = omega arith;
-  more = λ a. b.more a ∙ (ap (λ (r : List Term). take i ts ++ with_more u a r) (here ts i h) ∙ at a (term_at ts i) (drop (suc i) ts) e);
-  fits = λ a. b.fits a ∙ (ap (λ (r : List Term). more_fits u a r) (here ts i h) ∙ at_fits a (term_at ts i) (drop (suc i) ts) e);
-}
+-- a sum of two coefficients doesn't fit
+pub unfit : (f v : ℤ) (old total others made left : List Term) (i : ℕ) → i < length others
+    → AddRemains f old total others made left i → v ≡ f *ℤ (slice_index_or others i nowhere).1 → more_fits (slice_index_or others i nowhere).0 v left ≡ false
+    → plus_terms_fit f total others ≡ false
+unfit f v old total others made left i h a e m = a.fits ∙ (ap (λ (ts : List Term). plus_terms_fit f left ts) (drop-cons others i nowhere h) ∙ at (slice_index_or others i nowhere) e m)
   where
-    at : (a : ℤ) (t : Term) (rest : List Term) → is_same t.0 u ≡ true → take i ts ++ with_more u a (t ∷ rest) ≡ take i ts ++ with_term u (t.1 +ℤ a) rest
-    at a t rest e = rw e refl
+    at : (t : Term) → v ≡ f *ℤ t.1 → more_fits t.0 v left ≡ false → plus_terms_fit f left (t ∷ drop (suc i) others) ≡ false
+    at t e m =
+        let n : more_fits t.0 (f *ℤ t.1) left ≡ false = ap (λ (z : ℤ). more_fits t.0 z left) (sym e) ∙ m in
+        rw n (none (in_range (f *ℤ t.1)))
+      where
+        none : (b : Bool) → b && false && plus_terms_fit f (with_more t.0 (f *ℤ t.1) left) (drop (suc i) others) ≡ false
+        none true = refl
+        none false = refl
 
-    at_fits : (a : ℤ) (t : Term) (rest : List Term) → is_same t.0 u ≡ true → more_fits u a (t ∷ rest) ≡ in_range (t.1 +ℤ a)
-    at_fits a t rest e = rw e refl
+pub stopped : (r : Result ⊤ Fault) (fault : Fault) (m fits : Bool) (after new : List Term) → r ≡ Err fault → FailsWide fault m → (m ≡ false → fits ≡ false) → Adds r fits after new
+stopped r (Refused x) m fits after new e h g = rw e (g h.0, h.1)
+stopped r Memory m fits after new e h g = rw e tt
 
-pub would_stand : (u : Unknown) (ts : List Term) (i : ℕ) → i < length ts → Beyond u ts i → is_same (term_at ts i).0 u ≡ false → precedes u (term_at ts i).0 ≡ true → WouldStandAt u ts i
-would_stand u ts i h b e f = record {
-  within = omega arith;
-  more = λ a. b.more a ∙ (ap (λ (r : List Term). take i ts ++ with_more u a r) (here ts i h) ∙ (at a (term_at ts i) (drop (suc i) ts) e f ∙ ap (λ (r : List Term). take i ts ++ with_term u a r) (sym (here ts i h))));
-  fits = λ a. b.fits a ∙ (ap (λ (r : List Term). more_fits u a r) (here ts i h) ∙ at_fits a (term_at ts i) (drop (suc i) ts) e f);
-}
-  where
-    at : (a : ℤ) (t : Term) (rest : List Term) → is_same t.0 u ≡ false → precedes u t.0 ≡ true → take i ts ++ with_more u a (t ∷ rest) ≡ take i ts ++ with_term u a (t ∷ rest)
-    at a t rest e f = rw (e, f) refl
-
-    at_fits : (a : ℤ) (t : Term) (rest : List Term) → is_same t.0 u ≡ false → precedes u t.0 ≡ true → more_fits u a (t ∷ rest) ≡ true
-    at_fits a t rest e f = rw (e, f) refl
-
-pub stands_nowhere : (u : Unknown) (ts : List Term) → Beyond u ts (length ts) → WouldStandAt u ts (length ts)
-stands_nowhere u ts b =
-    let none : drop (length ts) ts ≡ [] = drop_all (length ts) ts (omega arith) in
-    record {
-      within = omega arith;
-      more = λ a. b.more a ∙ ap (λ (r : List Term). take (length ts) ts ++ r) (ap (λ (r : List Term). with_more u a r) none ∙ sym (ap (λ (r : List Term). with_term u a r) none));
-      fits = λ a. b.fits a ∙ ap (λ (r : List Term). more_fits u a r) none;
-    }
-
-pub replaced : (u : Unknown) (a : ℤ) (ts : List Term) (i : ℕ) → suc i ≤ length ts → int_eq a (pos 0) ≡ false → slice_set ts i (u, a) ≡ take i ts ++ with_term u a (drop (suc i) ts)
-replaced u a ts i h e = set_split ts i (u, a) h ∙ ap (λ (b : Bool). take i ts ++ (if b then drop (suc i) ts else ((u, a) ∷ drop (suc i) ts))) (sym e)
-
--- the unknown's term with what is added to it
-pub added_at : (u : Unknown) (ts after : List Term) (i : ℕ) (a c total : ℤ) → StandsAt u ts i → c ≡ (term_at ts i).1 → in_range (c +ℤ a) ≡ true → total ≡ c +ℤ a
-    → after ≡ take i ts ++ with_term u total (drop (suc i) ts) → (more_fits u a ts ≡ true) × (after ≡ with_more u a ts)
-added_at u ts after i a c total s e f g h = (
-  s.fits a ∙ (ap (λ (z : ℤ). in_range (z +ℤ a)) (sym e) ∙ f),
-  h ∙ (ap (λ (z : ℤ). take i ts ++ with_term u z (drop (suc i) ts)) (g ∙ ap (λ (z : ℤ). z +ℤ a) e) ∙ sym (s.more a)),
-)
-
--- the terms from place i on are still to be added
-pub record AddRemains (f : ℤ) (total others so_far : List Term) (i : ℕ) : Type 0 where
-  pub fits : plus_terms_fit f total others ≡ plus_terms_fit f so_far (drop i others)
-  pub value : plus_terms f total others ≡ plus_terms f so_far (drop i others)
+pub added_all : (f : ℤ) (old total others made left new : List Term) (i : ℕ) → length others ≤ i → AddRemains f old total others made left i → new ≡ made ++ left
+    → (plus_terms_fit f total others ≡ true) × (new ≡ old ++ plus_terms f total others)
+added_all f old total others made left new i h a e =
+    let none : drop i others ≡ [] = drop_all i others h in (
+      a.fits ∙ ap (λ (ts : List Term). plus_terms_fit f left ts) none,
+      e ∙ sym (a.value ∙ ap (λ (ts : List Term). made ++ plus_terms f left ts) none),
+    )
 
 pub record NumbersRemain (equations : List EquationContent) (values rest : List ℤ) : Type 0 where
   pub same : are_numbers equations values ≡ are_numbers equations rest

@@ -7,6 +7,7 @@ pub mod ModLaws
 pub mod CombLaws
 pub mod AddLaws
 pub mod OrderLaws
+pub mod MergeLaws
 pub mod Keeping
 pub mod HandLaws
 pub mod StoreLaws

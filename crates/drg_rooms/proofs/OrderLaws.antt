@@ -12,10 +12,10 @@ use Rattle.drg_rooms.specs.Combinations.{with_term, with_more, more_fits, plus_t
 use Rattle.drg_rooms.proofs.TermLaws.{same_unknown}
 
 -- the order of unknowns is total and transitive
-total : (u v : Unknown) → is_same v u ≡ false → precedes u v ≡ false → precedes v u ≡ true
+pub total : (u v : Unknown) → is_same v u ≡ false → precedes u v ≡ false → precedes v u ≡ true
 total u v h k = grind (arith, nat_tests)
 
-transitive : (u v w : Unknown) → precedes u v ≡ true → precedes v w ≡ true → precedes u w ≡ true
+pub transitive : (u v w : Unknown) → precedes u v ≡ true → precedes v w ≡ true → precedes u w ≡ true
 transitive u v w h k = grind (arith, nat_tests)
 
 follows_over : (v t : Term) (ts : List Term) → precedes v.0 t.0 ≡ true → follows t ts ≡ true → follows v ts ≡ true

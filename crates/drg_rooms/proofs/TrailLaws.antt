@@ -1,5 +1,5 @@
 -- Changes of the room in hand and the way back.
-use Rattle.std.proofs.Common.{◌≡◌, ℕ, zero, suc, ℤ, Bool, true, false, List, [], ◌∷◌, ◌++◌, Option, Some, None, refl, sym, ap, ◌∙◌}
+use Rattle.std.proofs.Common.{◌≡◌, ℕ, zero, suc, ℤ, Bool, true, false, List, [], ◌∷◌, ◌++◌, Option, Some, refl, sym, ap, ◌∙◌}
 use Rattle.std.specs.Prelude.{slice_set, reverse, Result, Ok, Err, IsOk, MatchResult}
 use Rattle.std.proofs.lemmas.List.{reverse-append}
 use Rattle.drg_linear.specs.Rooms.{RoomBounds, Bounds, bounds_at}

@@ -41,6 +41,11 @@ Adds (Ok t) fits after new = (fits ≡ true) × (new ≡ after)
 Adds (Err (inner.Refused r)) fits after new = (fits ≡ false) × (r ≡ refusal.Wide)
 Adds (Err inner.Memory) fits after new = ⊤
 
+-- a call fails for want of memory, or because a work number doesn't fit
+abbrev pub FailsWide : Fault → Bool → Type 0
+FailsWide (inner.Refused r) fits = (fits ≡ false) × (r ≡ refusal.Wide)
+FailsWide inner.Memory fits = ⊤
+
 -- a call that adds to a sum of equations, and gives its right side
 abbrev pub AddsEquation : Result ℤ Fault → Bool → EquationContent → List Term → Type 0
 AddsEquation (Ok right) fits after new = (fits ≡ true) × (new ≡ after.terms) × (right ≡ after.right)

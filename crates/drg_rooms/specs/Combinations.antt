@@ -1,10 +1,10 @@
 -- The line `comb`: a sum of multiples of equations.
-use Rattle.std.specs.Prelude.{◌≡◌, ◌≤◌, ℕ, suc, ◌++◌, take, drop, ℤ, pos, ◌+ℤ◌, ◌*ℤ◌, unsigned_abs, int_le, int_lt, Bool, true, false, ◌&&◌, if◌then◌else◌, List, [], ◌∷◌, length, slice_index_or}
+use Rattle.std.specs.Prelude.{◌≡◌, ◌≤◌, ℕ, ◌++◌, take, drop, ℤ, pos, ◌+ℤ◌, ◌*ℤ◌, unsigned_abs, int_le, int_lt, Bool, true, false, ◌&&◌, not, if◌then◌else◌, List, [], ◌∷◌, length, slice_index_or}
 use Rattle.std.specs.Ordering.{int_eq}
 use Rattle.drg_linear.specs.declared.unknown.Unknown.{Unknown}
 use Rattle.drg_whole.specs.Range.{in_range}
 use Rattle.drg_linear.specs.Unknowns.{is_same, precedes}
-use Rattle.drg_linear.specs.Equations.{Term, EquationContent}
+use Rattle.drg_linear.specs.Equations.{Term, EquationContent, follows, is_ordered}
 use Rattle.drg_rooms.specs.Steps.{Step, Holds, Fits}
 
 -- a term in front, which is left out where it is 0
@@ -27,22 +27,6 @@ more_fits u a (t ∷ ts) =
     then in_range (t.1 +ℤ a)
     else (if precedes u t.0 then true else more_fits u a ts)
 
-abbrev pub term_at : List Term → ℕ → Term
-term_at ts i = slice_index_or ts i (record { r = 0; s = 0; t = 0 }, pos 0)
-
--- the unknown's term stands at place i
-pub record StandsAt (u : Unknown) (ts : List Term) (i : ℕ) : Type 0 where
-  pub within : suc i ≤ length ts
-  pub more : (a : ℤ)
-      → with_more u a ts ≡ take i ts ++ with_term u ((term_at ts i).1 +ℤ a) (drop (suc i) ts)
-  pub fits : (a : ℤ) → more_fits u a ts ≡ in_range ((term_at ts i).1 +ℤ a)
-
--- there is none, and it would stand before place i
-pub record WouldStandAt (u : Unknown) (ts : List Term) (i : ℕ) : Type 0 where
-  pub within : i ≤ length ts
-  pub more : (a : ℤ) → with_more u a ts ≡ take i ts ++ with_term u a (drop i ts)
-  pub fits : (a : ℤ) → more_fits u a ts ≡ true
-
 -- f times these terms, added to a sum
 abbrev pub plus_terms : ℤ → List Term → List Term → List Term
 plus_terms f total [] = total
@@ -54,6 +38,48 @@ plus_terms_fit f total (t ∷ ts) =
     in_range (f *ℤ t.1)
     && more_fits t.0 (f *ℤ t.1) total
     && plus_terms_fit f (with_more t.0 (f *ℤ t.1) total) ts
+
+-- each of the terms stands before the unknown
+abbrev pub all_before : Unknown → List Term → Bool
+all_before u [] = true
+all_before u (t ∷ ts) = precedes t.0 u && all_before u ts
+
+-- the first of the terms, where there is one, doesn't stand before the unknown
+abbrev pub none_before : Unknown → List Term → Bool
+none_before u [] = true
+none_before u (t ∷ ts) = not (precedes t.0 u)
+
+-- the first i terms are those before the unknown
+pub record StandBefore (u : Unknown) (ts : List Term) (i : ℕ) : Type 0 where
+  pub within : i ≤ length ts
+  pub before : all_before u (take i ts) ≡ true
+  pub others : none_before u (drop i ts) ≡ true
+
+-- the terms before the unknown and the others
+pub record AreDivided (u : Unknown) (ts before others : List Term) : Type 0 where
+  pub whole : ts ≡ before ++ others
+  pub first : all_before u before ≡ true
+  pub second : none_before u others ≡ true
+
+-- the first term is the unknown's, with this coefficient, before these terms
+pub record HasOwn (u : Unknown) (ts : List Term) (c : ℤ) (left : List Term) : Type 0 where
+  pub more : (a : ℤ) → with_more u a ts ≡ with_term u (c +ℤ a) left
+  pub fits : (a : ℤ) → more_fits u a ts ≡ in_range (c +ℤ a)
+
+-- the unknown has no term, and one would stand first
+pub record HasNone (u : Unknown) (ts : List Term) : Type 0 where
+  pub more : (a : ℤ) → with_more u a ts ≡ with_term u a ts
+  pub fits : (a : ℤ) → more_fits u a ts ≡ true
+
+-- one more term is added to these terms: with it and with any that stand after it, the sum is what
+-- is put behind the old terms, and the sum with those that are left
+pub record Passes (u : Unknown) (a : ℤ) (ts old new left : List Term) : Type 0 where
+  pub value : (f : ℤ) (others : List Term)
+      → follows (u, a) others ≡ true → is_ordered others ≡ true
+      → old ++ plus_terms f (with_more u a ts) others ≡ new ++ plus_terms f left others
+  pub fits : (f : ℤ) (others : List Term)
+      → follows (u, a) others ≡ true → is_ordered others ≡ true
+      → plus_terms_fit f (with_more u a ts) others ≡ plus_terms_fit f left others
 
 abbrev pub of_terms : List Term → ℤ → EquationContent
 of_terms terms right = record { terms = terms; right = right }

@@ -1,9 +1,10 @@
 //! Sums of multiples of equations.
-ghost use Rattle.std.specs.Prelude.{◌≡◌, ◌≤◌, ◌+ℤ◌, ◌*ℤ◌, ◌&&◌, ◌++◌, suc, length, take, drop, ◌∷◌, [], true, false, MatchResult, MatchOption};
+ghost use Rattle.std.specs.Prelude.{◌≡◌, ◌+ℤ◌, ◌*ℤ◌, ◌++◌, ◌∷◌, [], true, false, IfOk, MatchResult, MatchOption};
 ghost use Rattle.drg_whole.specs.Range.{Gives, in_range};
 ghost use Rattle.drg_whole.specs.Whole.{value_of};
-ghost use Rattle.drg_rooms.specs.Combinations.{of_terms, term_at, StandsAt, WouldStandAt, with_term, with_more, more_fits, plus_terms, plus_terms_fit, has_pair, are_numbers as the_are_numbers, plus_equation, plus_equation_fits, combination_from, combination_fits_from, no_equation};
-ghost use Rattle.drg_rooms.specs.Answers.{Adds, AddsEquation, Combines};
+ghost use Rattle.drg_linear.specs.Equations.{is_ordered};
+ghost use Rattle.drg_rooms.specs.Combinations.{of_terms, none_before, StandBefore, AreDivided, HasOwn, HasNone, Passes, with_term, more_fits, plus_terms, plus_terms_fit, has_pair, are_numbers as the_are_numbers, plus_equation, plus_equation_fits, combination_from, combination_fits_from, no_equation};
+ghost use Rattle.drg_rooms.specs.Answers.{Adds, FailsWide, AddsEquation, Combines};
 
 use crate::equation_list::EquationList;
 use crate::fault::Fault;
@@ -12,6 +13,7 @@ use crate::refusal::Refusal;
 use drg_linear::{Equation, Terms, Unknown};
 use drg_whole::{Product, Whole, Wide};
 use std::alloc::{AllocError, Global};
+use std::mem::swap;
 
 /// A factor times a number.
 fn multiple(factor: i128, number: i128) -> Result<Whole, Wide>
@@ -34,114 +36,103 @@ fn sum(a: i128, b: i128) -> Result<Whole, Wide>
     }
 }
 
-/// The place of the unknown's term, or the place where it would stand.
-fn find(terms: &[(Unknown, i128)], unknown: Unknown) -> Result<usize, usize>
-    ensures { MatchResult result
-        (λ i. StandsAt unknown terms.now i)
-        (λ i. WouldStandAt unknown terms.now i) }
+/// How many of the terms stand before the unknown, up to the first that doesn't.
+fn count_before(terms: &[(Unknown, i128)], unknown: Unknown) -> usize
+    ensures { StandBefore unknown terms.now result }
 {
     'terms: for (i, term) in terms.iter().enumerate() {
-        if term.0.is_same(unknown) {
-            return Ok(i);
-        }
-        if unknown.precedes(term.0) {
-            return Err(i);
+        if !term.0.precedes(unknown) {
+            return i;
         }
     }
-    Err(terms.len())
+    terms.len()
 }
 
-/// The coefficient of the term at a place.
-fn coefficient_at(terms: &[(Unknown, i128)], i: usize) -> i128
-    requires { suc i ≤ length terms.now }
-    ensures { result ≡ (term_at terms.now i).1 }
-{
-    terms[i].1
-}
-
-/// Gives the term at a place this coefficient, and leaves it out where that is 0.
-fn replace(terms: &mut Vec<(Unknown, i128)>, i: usize, unknown: Unknown, value: i128)
-    requires { suc i ≤ length terms.old.items }
-    ensures { terms.new.items
-        ≡ take i terms.old.items ++ with_term unknown value (drop (suc i) terms.old.items) }
-{
-    if value == 0 {
-        terms.remove(i);
-    } else {
-        terms[i] = (unknown, value);
-    }
-}
-
-/// Puts a term in front of a place, unless its coefficient is 0. Where it fails, nothing has
-/// changed.
-fn insert(
-    terms: &mut Vec<(Unknown, i128)>,
-    i: usize,
+/// Puts a term behind others, unless its coefficient is 0.
+fn push_term(
+    made: &mut Vec<(Unknown, i128)>,
     unknown: Unknown,
     value: i128,
 ) -> Result<(), AllocError>
-    requires { i ≤ length terms.old.items }
-    ensures { MatchResult result
-        (λ _. terms.new.items
-        ≡ take i terms.old.items ++ with_term unknown value (drop i terms.old.items))
-        (λ _. terms.new.items ≡ terms.old.items) }
+    ensures { IfOk result
+        (λ _. made.new.items ≡ made.old.items ++ with_term unknown value []) }
 {
     if value != 0 {
-        terms.insert(i, (unknown, value))?;
+        made.push((unknown, value))?;
     }
     Ok(())
 }
 
-/// Adds a term to a sum, at its place in the order.
-fn add_term(terms: &mut Vec<(Unknown, i128)>, unknown: Unknown, value: i128) -> Result<(), Fault>
-    ensures { Adds result
-        (more_fits unknown value terms.old.items)
-        (with_more unknown value terms.old.items)
-        terms.new.items }
+/// The terms before the unknown, and the others.
+fn divide(terms: &[(Unknown, i128)], unknown: Unknown) -> (&[(Unknown, i128)], &[(Unknown, i128)])
+    ensures { AreDivided unknown terms.now result.0.now result.1.now }
 {
-    match find(terms, unknown) {
-        Ok(i) => {
-            let total = sum(coefficient_at(terms, i), value)?;
-            replace(terms, i, unknown, total.value);
-            Ok(())
+    terms.split_at(count_before(terms, unknown))
+}
+
+/// The coefficient of the unknown and the terms behind its own, where that is the first.
+fn own_term(terms: &[(Unknown, i128)], unknown: Unknown) -> Option<(i128, &[(Unknown, i128)])>
+    requires { none_before unknown terms.now ≡ true }
+    ensures { MatchOption result
+        (HasNone unknown terms.now)
+        (λ own. HasOwn unknown terms.now own.0 own.1.now) }
+{
+    let (term, left) = terms.split_first()?;
+    if term.0.is_same(unknown) {
+        Some((term.1, left))
+    } else {
+        None
+    }
+}
+
+/// Adds a term to a sum: puts the terms before it and its own behind those that are made, and gives
+/// the terms that are left.
+fn add_term<'a>(
+    made: &mut Vec<(Unknown, i128)>,
+    terms: &'a [(Unknown, i128)],
+    unknown: Unknown,
+    value: i128,
+) -> Result<&'a [(Unknown, i128)], Fault>
+    ensures { MatchResult result
+        (λ left. (more_fits unknown value terms.now ≡ true)
+        × Passes unknown value terms.now made.old.items made.new.items left.now)
+        (λ fault. FailsWide fault (more_fits unknown value terms.now)) }
+{
+    let (before, rest) = divide(terms, unknown);
+    made.extend_from_slice(before)?;
+    match own_term(rest, unknown) {
+        Some((coefficient, left)) => {
+            let total = sum(coefficient, value)?;
+            push_term(made, unknown, total.value)?;
+            Ok(left)
         }
-        Err(i) => {
-            insert(terms, i, unknown, value)?;
-            Ok(())
+        None => {
+            push_term(made, unknown, value)?;
+            Ok(rest)
         }
     }
 }
 
-/// Adds f times a term to a sum.
-fn add_multiple(
-    terms: &mut Vec<(Unknown, i128)>,
-    factor: i128,
-    term: (Unknown, i128),
-) -> Result<(), Fault>
-    ensures { let value = factor *ℤ term.1 in
-        Adds result
-        (in_range value && more_fits term.0 value terms.old.items)
-        (with_more term.0 value terms.old.items)
-        terms.new.items }
-{
-    let value = multiple(factor, term.1)?;
-    add_term(terms, term.0, value.value)
-}
-
-/// Adds f times these terms to a sum.
+/// Adds f times terms that ascend to a sum, in one walk over both, and puts the new sum behind those
+/// that are made.
 fn add_terms(
-    terms: &mut Vec<(Unknown, i128)>,
+    made: &mut Vec<(Unknown, i128)>,
+    terms: &[(Unknown, i128)],
     factor: i128,
     others: &[(Unknown, i128)],
 ) -> Result<(), Fault>
+    requires { is_ordered others.now ≡ true }
     ensures { Adds result
-        (plus_terms_fit factor terms.old.items others.now)
-        (plus_terms factor terms.old.items others.now)
-        terms.new.items }
+        (plus_terms_fit factor terms.now others.now)
+        (made.old.items ++ plus_terms factor terms.now others.now)
+        made.new.items }
 {
+    let mut rest = terms;
     'others: for term in others {
-        add_multiple(terms, factor, *term)?;
+        let value = multiple(factor, term.1)?;
+        rest = add_term(made, rest, term.0, value.value)?;
     }
+    made.extend_from_slice(rest)?;
     Ok(())
 }
 
@@ -170,28 +161,32 @@ pub fn are_numbers(equations: &EquationList, values: &[i128]) -> bool
     rest.is_empty()
 }
 
-/// Adds f times an equation to a sum of equations with these terms and this right side, and gives
-/// the new right side.
+/// Adds f times an equation to a sum of equations with these terms and this right side: makes the
+/// new terms, and gives the new right side.
 fn add_equation(
-    terms: &mut Vec<(Unknown, i128)>,
+    made: &mut Vec<(Unknown, i128)>,
+    terms: &[(Unknown, i128)],
     right: i128,
     factor: i128,
     equation: &Equation,
 ) -> Result<i128, Fault>
-    ensures { let total = of_terms terms.old.items right in
+    requires { made.old.items ≡ [] }
+    ensures { let total = of_terms terms.now right in
         AddsEquation result
         (plus_equation_fits factor total equation.now)
         (plus_equation factor total equation.now)
-        terms.new.items }
+        made.new.items }
 {
-    add_terms(terms, factor, equation.terms.as_slice())?;
+    add_terms(made, terms, factor, equation.terms.as_slice())?;
     let more = multiple(factor, equation.right)?;
     Ok(sum(right, more.value)?.value)
 }
 
-/// The sum of the multiples: its terms, where there were none, and its right side.
+/// The sum of the multiples: its terms, where there were none, and its right side. Each sum on the
+/// way is made from the one before it in the other of two places, and `made` is the second.
 fn add_equations(
     terms: &mut Vec<(Unknown, i128)>,
+    mut made: Vec<(Unknown, i128)>,
     equations: &EquationList,
     values: &[i128],
 ) -> Result<i128, Fault>
@@ -206,7 +201,9 @@ fn add_equations(
     let mut rest = values;
     'pairs: while let Some((n, factor, more)) = first_pair(rest) {
         if let Ok(equation) = equations.get(n) {
-            right = add_equation(terms, right, factor, equation)?;
+            made.clear();
+            right = add_equation(&mut made, terms, right, factor, equation)?;
+            swap(terms, &mut made);
         }
         rest = more;
     }
@@ -227,7 +224,7 @@ pub fn combination(
         return Err(Fault::Refused(Refusal::NotMet));
     }
     let mut terms = Vec::new(alloc);
-    let right = add_equations(&mut terms, equations, values)?;
+    let right = add_equations(&mut terms, Vec::new(alloc), equations, values)?;
     Ok(Equation {
         terms: Terms::new(terms),
         right,
