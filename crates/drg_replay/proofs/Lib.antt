@@ -5,5 +5,8 @@ pub mod RowLaws
 pub mod RootLaws
 pub mod KnownLaws
 pub mod AloneLaws
+pub mod PlaceLaws
+pub mod ValueLaws
+pub mod CountLaws
 pub mod Soundness
 pub mod ReplayedLaws

@@ -1,5 +1,5 @@
 -- The test of a root finds the squarefree numbers.
-use Rattle.std.proofs.Common.{◌≡◌, ℕ, zero, suc, ◌+◌, ◌*◌, ◌%◌, ◌<◌, ◌≤◌, Bool, true, false, refl, sym, subst, arith, inl, inr, ℤ, pos, negsuc}
+use Rattle.std.proofs.Common.{◌≡◌, ℕ, zero, suc, ◌+◌, ◌*◌, ◌%◌, ◌<◌, ◌≤◌, Bool, true, false, refl, sym, ap, subst, arith, inl, inr, ℤ, pos, negsuc}
 use Rattle.std.specs.Prelude.{◌&&◌, ◌⊎◌, not, nat_eq, nat_lt, int_le, unsigned_abs}
 use Rattle.std.specs.Int.{◌∣◌}
 use Rattle.std.specs.Ordering.{int_eq}
@@ -9,6 +9,7 @@ use Rattle.std.proofs.lemmas.Nat.{mul-le}
 use Rattle.std.proofs.lemmas.Nat.Gcd.{le_of_dvd, dvd_of_mod-eq-zero, mod-eq-zero_of_dvd}
 use Rattle.drg_algebra.specs.Root.{IsSquarefree}
 use Rattle.drg_algebra.proofs.Tests.{both, either, and-in, or-left, or-right}
+use Rattle.drg_quadratic.specs.Values.{IsRoot}
 use Rattle.drg_replay.specs.Indices.{is_index}
 use Rattle.drg_replay.specs.Roots.{has_no_square, is_root, IsSquarefreeRoot, RootLaw}
 use Rattle.drg_replay.proofs.StepLaws.{not_met, is_less, is_same, are_same}
@@ -84,3 +85,11 @@ root_found root = (
   ],
   taken root,
 )
+
+-- such a root is one of an exact field
+pub root_is : (root : ℤ) → is_root root ≡ true → IsRoot (unsigned_abs root)
+root_is root h positive = elim ((root_found root).0 h) [
+  | inl e ↦ absurd (let none : unsigned_abs root ≡ 0 = ap unsigned_abs e in omega (arith, none, positive))
+  | inr r ↦ (let here : r.number ≡ unsigned_abs root = ap unsigned_abs (sym r.is) in
+      (subst IsSquarefree here r.free, (let low = r.low in omega (arith, here, low))))
+]

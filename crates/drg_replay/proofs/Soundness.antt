@@ -1,13 +1,13 @@
 -- What an accepted derivation, and each met line of it, says of graphs.
-use Rattle.std.proofs.Common.{◌≡◌, ℕ, zero, suc, ◌+◌, ◌-◌, ◌<◌, ◌≤◌, true, List, [], ◌∷◌, length, reverse, Ok, sym, ap, ◌∙◌, subst, arith, inl, inr, Option}
-use Rattle.std.specs.Prelude.{ℤ, pos, negsuc, unsigned_abs, ◌*ℤ◌, ◌<ℤ◌, ◌≢◌, ◌&&◌, ◌||◌, not, nat_eq, nat_le, nat_lt, int_le}
+use Rattle.std.proofs.Common.{◌≡◌, ℕ, zero, suc, ◌+◌, ◌-◌, ◌<◌, ◌≤◌, Bool, true, false, List, [], ◌∷◌, length, reverse, Ok, refl, sym, ap, ◌∙◌, subst, arith, inl, inr, Option, Some, None}
+use Rattle.std.specs.Prelude.{ℤ, pos, negsuc, unsigned_abs, ◌*ℤ◌, ◌<ℤ◌, ◌≢◌, ◌&&◌, ◌||◌, not, nat_eq, nat_le, nat_lt, int_le, is_some, if◌then◌else◌}
 use Rattle.std.proofs.lemmas.Int.{ints}
 use Rattle.drg_algebra.specs.Sums.{IsMultiple}
 use Rattle.drg_algebra.proofs.Tests.{both, either}
 use Rattle.drg_array.specs.Entries.{Entries, IsArray, diameter, b_at, c_at}
 use Rattle.drg_array.specs.declared.claim.Claim.{Claim}
 use Rattle.drg_array.specs.declared.claim.Claim.TheVariants as claim
-use Rattle.drg_array.specs.declared.claim.Class.TheVariants.{Counting}
+use Rattle.drg_array.specs.declared.claim.Class.TheVariants.{Counting, Spectral}
 use Rattle.drg_derivation.specs.declared.line.Line.{Line}
 use Rattle.drg_derivation.specs.declared.line.Line.TheVariants.{K, P}
 use Rattle.drg_array.proofs.EntryLemmas.{c-positive}
@@ -17,14 +17,14 @@ use Rattle.drg_graph.specs.DistanceLaws.{FirstLaw, DegreeLaw, OrderLaw, CrossLaw
 use Rattle.drg_graph.specs.SizeLaws.{SizeLaw, SizesLaw}
 use Rattle.drg_graph.specs.RowLaws.{IntersectLaw, RowsLaw}
 use Rattle.drg_graph.specs.ParityLaws.{HandshakeLaw, InducedLaw, TrianglesLaw}
-use Rattle.drg_replay.specs.Known.{KnownContent}
+use Rattle.drg_replay.specs.Known.{KnownContent, FrameContent}
 use Rattle.drg_replay.specs.Steps.{EachHolds, first_failure}
 use Rattle.drg_whole.specs.Residues.{divides}
 use Rattle.drg_replay.specs.Sizes.{size_at, values_of}
 use Rattle.drg_replay.specs.Rows.{rows_at, entry}
 use Rattle.drg_replay.specs.Indices.{is_index}
 use Rattle.drg_replay.specs.Lines.{known_of, steps_of}
-use Rattle.drg_replay.specs.Claims.{claim_is_met, is_distance, closing_of, closing_steps, size_closing, intersect_closing, handshake_closing, induced_closing, triangles_closing}
+use Rattle.drg_replay.specs.Claims.{claim_is_met, is_distance, closing_of, closing_steps, size_closing, intersect_closing, handshake_closing, induced_closing, triangles_closing, mult_closing}
 use Rattle.drg_replay.specs.Answers.{AllAreMet, progress_of, accepted_class}
 use Rattle.drg_replay.specs.Laws.{ClassLaw}
 use Rattle.drg_replay.specs.Soundness.{GraphLaw, MetSizesLaw, MetRowsLaw}
@@ -136,8 +136,13 @@ module _ (laws : Laws) (a : Entries) (array : IsArray a) where
       (let Q : ℤ → Type 0 = λ z. IsMultiple 6 (z *ℤ size_at sizes i *ℤ entry i rows i i) → ⊥ in
       subst Q (count_is_sum sizes (suc (diameter a)) (omega arith)) (broken 6 _ (omega arith) h.1.1.0))
 
--- a closed claim excludes every graph of the array in force
-module _ (laws : Laws) (k : KnownContent) (array : IsArray k.array) where
+-- mult is closed with a frame alone
+mult_needs_frame : (a : Entries) (frame : Option FrameContent) (i : ℕ) → is_some frame ≡ false → EachHolds (mult_closing a frame i) → ⊥
+mult_needs_frame a None i e h = let never : false ≡ true = h.0 in cc
+mult_needs_frame a (Some f) i e h = cc
+
+-- a closed claim excludes every graph of the array in force, where there is no frame
+module _ (laws : Laws) (k : KnownContent) (array : IsArray k.array) (unframed : is_some k.frame ≡ false) where
   closed_excludes : (c : Claim) → claim_is_met k.array c ≡ true → EachHolds (closing_of k c) → Sized k.array (values_of k.counts.sizes) → ((h : ℕ) → Rowed k.array h (rows_at k.counts.rows h)) → NoGraph k.array
   closed_excludes claim.First met h sizes rows = laws.first k.array array (not_same _ _ h.0)
   closed_excludes (claim.Degree i) met h sizes rows = (let range = distance k.array i met in laws.degree k.array i array range.0 range.1 (is_whole_less _ _ h.0))
@@ -156,7 +161,13 @@ module _ (laws : Laws) (k : KnownContent) (array : IsArray k.array) where
       induced_excludes laws k.array array k.counts.sizes (rows_at k.counts.rows i) i j first.1 second.0 second.1 h sizes (rows i)
   closed_excludes (claim.Triangles i) met h sizes rows =
       (let range = distance k.array i met in triangles_excludes laws k.array array k.counts.sizes (rows_at k.counts.rows i) i range.0 range.1 h sizes (rows i))
+  closed_excludes (claim.Mult i) met h sizes rows = absurd (mult_needs_frame k.array k.frame i unframed h)
   closed_excludes _ met h sizes rows = cc
+
+-- the class is that of counting rules where there is no frame
+counting_unframed : (framed : Bool) → Counting ≡ (if framed then Spectral else Counting) → framed ≡ false
+counting_unframed true e = cc
+counting_unframed false e = refl
 
 -- ---- the answer
 
@@ -175,7 +186,7 @@ excludes laws δ array h =
     let closed = subst (λ k. first_failure (closing_steps k) ≡ Ok tt) known end.closed in
     let here = array_stays a c lines in
     subst NoGraph here
-    (closed_excludes laws k (subst IsArray (sym here) array) k.claim (met_in_force a c lines (claim_was_met a c lines end.known end.all_met)) (each_holds _ closed) (sizes_known a c lines met)
+    (closed_excludes laws k (subst IsArray (sym here) array) (counting_unframed (is_some k.frame) (end.class_is ∙ ap accepted_class known)) k.claim (met_in_force a c lines (claim_was_met a c lines end.known end.all_met)) (each_holds _ closed) (sizes_known a c lines met)
     (rows_known a c lines met))
 
 pub class_is : ClassLaw

@@ -15,7 +15,7 @@ use Rattle.drg_replay.specs.declared.progress.Progress.TheVariants.{AllMet, Deci
 use Rattle.drg_replay.specs.declared.answer.ReplayFault.{ReplayFault}
 use Rattle.drg_replay.specs.declared.answer.ReplayFault.TheVariants as answer
 use Rattle.drg_replay.specs.Known.{KnownContent}
-use Rattle.drg_replay.specs.Steps.{first_failure}
+use Rattle.drg_replay.specs.Steps.{Step, first_failure}
 use Rattle.drg_replay.specs.Lines.{known_at_start, known_after, known_of, steps_of}
 use Rattle.drg_replay.specs.Claims.{claim_is_met, closing_steps}
 
@@ -70,6 +70,13 @@ answer_after a claim lines = answer_at (progress_of a claim lines) (length lines
 -- the answer of a derivation; it is never `Memory`
 abbrev pub answer_of : Content → Result Class ReplayFault
 answer_of δ = answer_after δ.array δ.claim (reverse δ.lines)
+
+-- a call that takes what these steps ask: what they come to, and what it has then; a refusal and
+-- want of memory change nothing
+abbrev pub Takes : {A : Type 0} → Result ⊤ Fault → List Step → A → A → A → Type 0
+Takes (Ok t) steps old after new = (first_failure steps ≡ Ok tt) × (new ≡ after)
+Takes (Err (fault.Refused r)) steps old after new = (first_failure steps ≡ Err r) × (new ≡ old)
+Takes (Err fault.Memory) steps old after new = new ≡ old
 
 -- a call that takes a line: what the line comes to, and what is known then; a refusal and want of
 -- memory change nothing

@@ -4,7 +4,11 @@ use Rattle.std.specs.Prelude.{ℕ, suc, ◌+◌, ◌-◌, nat_eq, nat_lt, nat_le
 use Rattle.drg_array.specs.Entries.{Entries, diameter, b_at, c_at, a_at}
 use Rattle.drg_array.specs.declared.claim.Claim.{Claim}
 use Rattle.drg_array.specs.declared.claim.Claim.TheVariants.{First, Degree, Order, Cross, Size, Intersect, Handshake, Induced, Triangles, Mult}
-use Rattle.drg_replay.specs.Known.{KnownContent}
+use Rattle.drg_replay.specs.Known.{KnownContent, FrameContent}
+use Rattle.std.specs.Ordering.{int_eq}
+use Rattle.drg_algebra.specs.Reduced.{numerator, denominator}
+use Rattle.drg_quadratic.specs.Values.{Value}
+use Rattle.drg_replay.specs.Frames.{q_at, all_stand, in_frame}
 use Rattle.drg_replay.specs.Steps.{Step, Holds, Fits, not_built}
 use Rattle.drg_whole.specs.Range.{in_range}
 use Rattle.drg_whole.specs.Residues.{divides}
@@ -77,6 +81,17 @@ triangles_closing a sizes rows i =
     ∷ Holds (not (divides 6 (vertex_count sizes *ℤ size_at sizes i *ℤ entry i rows i i)))
     ∷ []
 
+-- x is a positive whole number
+abbrev pub is_positive_whole : Value → Bool
+is_positive_whole x =
+    int_eq (numerator x.b) (pos 0) && int_eq (denominator x.a) (pos 1)
+    && int_lt (pos 0) (numerator x.a)
+
+-- the frame is whole, and Q_0i isn't a positive whole number
+abbrev pub mult_closing : Entries → Option FrameContent → ℕ → List Step
+mult_closing a frame i =
+    in_frame frame (λ f. Holds (all_stand a f.q) ∷ Holds (not (is_positive_whole (q_at f 0 i))) ∷ [])
+
 -- the claims that have a rule for the end; no other claim is closed yet
 abbrev pub closing_of : KnownContent → Claim → List Step
 closing_of k First = Holds (not (nat_eq (c_at k.array 1) 1)) ∷ []
@@ -88,6 +103,7 @@ closing_of k (Intersect h i j) = intersect_closing k.array h (rows_at k.counts.r
 closing_of k (Handshake i) = handshake_closing k.array k.counts.sizes i
 closing_of k (Induced i j) = induced_closing k.array k.counts.sizes (rows_at k.counts.rows i) i j
 closing_of k (Triangles i) = triangles_closing k.array k.counts.sizes (rows_at k.counts.rows i) i
+closing_of k (Mult i) = mult_closing k.array k.frame i
 closing_of k _ = not_built
 
 -- what the end asks for the claim in force

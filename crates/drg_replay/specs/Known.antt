@@ -1,5 +1,5 @@
 -- What the lines so far have made known, in groups.
-use Rattle.std.specs.Prelude.{ℤ, List, Option}
+use Rattle.std.specs.Prelude.{ℕ, ℤ, List, Option}
 use Rattle.drg_array.specs.Entries.{Entries}
 use Rattle.drg_array.specs.declared.claim.Claim.{Claim}
 
@@ -13,7 +13,11 @@ pub record CountContent : Type 0 where
 -- what the `frame` line and those that need it state
 pub record FrameContent : Type 0 where
   -- the number whose square root the field numbers are made with, 0 for none
-  pub root : ℤ
+  pub root : ℕ
+  -- the numbers of the lines `theta`, `prow` and `qrow`, each list from its first line on
+  pub theta : List (List ℤ)
+  pub p : List (List ℤ)
+  pub q : List (List ℤ)
 
 pub record KnownContent : Type 0 where
   -- the array and the claim in force

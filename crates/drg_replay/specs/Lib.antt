@@ -1,5 +1,6 @@
 pub mod Answers
 pub mod Claims
+pub mod FieldNumbers
 pub mod Frames
 pub mod HasJudged
 pub mod Indices
@@ -10,4 +11,5 @@ pub mod Roots
 pub mod Rows
 pub mod Sizes
 pub mod Soundness
+pub mod Spectral
 pub mod Steps

@@ -4,11 +4,11 @@ use Rattle.drg_array.specs.Entries.{Entries, diameter}
 use Rattle.drg_array.specs.declared.claim.Claim.{Claim}
 use Rattle.drg_derivation.specs.Content.{Content}
 use Rattle.drg_derivation.specs.declared.line.Line.{Line}
-use Rattle.drg_derivation.specs.declared.line.Line.TheVariants.{K, P, Frame}
+use Rattle.drg_derivation.specs.declared.line.Line.TheVariants.{K, P, Frame, Theta, Prow, Qrow}
 use Rattle.drg_replay.specs.Known.{KnownContent, CountContent, FrameContent}
 use Rattle.drg_replay.specs.Steps.{Step, Holds, not_built}
 use Rattle.drg_replay.specs.Indices.{is_index}
-use Rattle.drg_replay.specs.Frames.{frame_steps}
+use Rattle.drg_replay.specs.Frames.{frame_steps, theta_steps, prow_steps, qrow_steps, in_frame}
 use Rattle.drg_replay.specs.Sizes.{size_steps}
 use Rattle.drg_replay.specs.Rows.{rows_at, row_steps}
 
@@ -19,6 +19,16 @@ abbrev pub with_row : CountContent → ℕ → List ℤ → CountContent
 with_row counts h row =
     record counts { rows = slice_set counts.rows h (rows_at counts.rows h ++ row ∷ []) }
 
+-- one more line of each kind that needs a frame
+abbrev pub with_theta : FrameContent → List ℤ → FrameContent
+with_theta f numbers = record f { theta = f.theta ++ numbers ∷ [] }
+
+abbrev pub with_prow : FrameContent → List ℤ → FrameContent
+with_prow f numbers = record f { p = f.p ++ numbers ∷ [] }
+
+abbrev pub with_qrow : FrameContent → List ℤ → FrameContent
+with_qrow f numbers = record f { q = f.q ++ numbers ∷ [] }
+
 -- Each group says which lines change it, and how. No other line does.
 
 abbrev pub counts_after : Line → CountContent → CountContent
@@ -27,7 +37,11 @@ counts_after (P h i values) counts = with_row counts (unsigned_abs h) values
 counts_after _ counts = counts
 
 abbrev pub frame_after : Line → Option FrameContent → Option FrameContent
-frame_after (Frame root) frame = Some (record { root = root })
+frame_after (Frame root) frame =
+    Some (record { root = unsigned_abs root; theta = []; p = []; q = [] })
+frame_after (Theta i numbers) (Some f) = Some (with_theta f numbers)
+frame_after (Prow i numbers) (Some f) = Some (with_prow f numbers)
+frame_after (Qrow r numbers) (Some f) = Some (with_qrow f numbers)
 frame_after _ frame = frame
 
 -- what is known after one more line
@@ -63,4 +77,8 @@ steps_of k (P h i values) =
     ∷ Holds (is_index 1 i (diameter k.array))
     ∷ row_steps k.array upper (rows_at k.counts.rows upper) (unsigned_abs i - 1) values
 steps_of k (Frame root) = frame_steps k root
+steps_of k (Theta i numbers) = in_frame k.frame (λ f. theta_steps k.array f i numbers)
+steps_of k (Prow i numbers) = in_frame k.frame (λ f. prow_steps k.array f i numbers)
+steps_of k (Qrow r numbers) =
+    in_frame k.frame (λ f. qrow_steps k.array k.counts.sizes f r numbers)
 steps_of k _ = not_built

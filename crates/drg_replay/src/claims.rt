@@ -2,9 +2,12 @@
 ghost use Rattle.std.specs.Prelude.{◌≡◌, ◌≤◌};
 ghost use Rattle.drg_array.specs.Entries.{diameter};
 ghost use Rattle.drg_replay.specs.Steps.{first_failure};
-ghost use Rattle.drg_replay.specs.Claims.{claim_is_met as the_claim_is_met, is_distance as the_is_distance, size_closing, intersect_closing, closing_steps};
+ghost use Rattle.drg_quadratic.specs.Quadratic.{value_of};
+ghost use Rattle.drg_replay.specs.Claims.{claim_is_met as the_claim_is_met, is_distance as the_is_distance, size_closing, intersect_closing, is_positive_whole as the_is_positive_whole, mult_closing, closing_steps};
 
 use crate::entries::times_entry;
+use crate::field_number::value_at;
+use crate::frame::{Frame, all_stand};
 use crate::known::Known;
 use crate::parity::{check_handshake, check_induced, check_triangles, divides};
 use crate::refusal::{Refusal, met_where, not_built};
@@ -12,6 +15,8 @@ use crate::rows::{balance_sum, row_stands};
 use crate::sizes::{size_at, values_of};
 use drg_array::{Array, Claim};
 use drg_derivation::NumberList;
+use drg_fraction::Field;
+use drg_quadratic::Quadratic;
 
 /// Whether i is from 1 to d.
 fn is_distance(array: &Array, i: u8) -> bool
@@ -76,6 +81,30 @@ fn check_intersect(
     met_where(numerator.value < 0 || !divides(array.c(i), numerator.value))
 }
 
+/// Whether the value is a positive whole number.
+fn is_positive_whole(x: Quadratic) -> bool
+    ensures { result ≡ the_is_positive_whole (value_of x) }
+{
+    let whole = x.a();
+    x.b().num() == 0 && whole.den() == 1 && whole.num() > 0
+}
+
+/// Whether `mult i` is closed.
+fn check_mult(array: &Array, frame: &Option<Frame>, i: usize) -> Result<(), Refusal>
+    requires { i ≤ diameter array.now }
+    ensures { result ≡ first_failure (mult_closing array.now frame.now i) }
+{
+    array.known_valid();
+    let Some(frame) = frame else {
+        return Err(Refusal::NotMet);
+    };
+    if !all_stand(array, frame.q()) {
+        return Err(Refusal::NotMet);
+    }
+    let multiplicity = value_at(frame.root(), frame.q()[0].as_slice(), i);
+    met_where(!is_positive_whole(multiplicity))
+}
+
 /// Whether the claim is closed by what is known at the end.
 pub fn check_closing(known: &Known) -> Result<(), Refusal>
     ensures { result ≡ first_failure (closing_steps known.now) }
@@ -105,6 +134,7 @@ pub fn check_closing(known: &Known) -> Result<(), Refusal>
             let i = usize::from(i);
             check_triangles(array, counts.sizes(), counts.rows_at(i), i)
         }
+        Claim::Mult { i } => check_mult(array, known.frame(), usize::from(i)),
         _ => not_built(),
     }
 }

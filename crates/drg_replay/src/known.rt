@@ -4,12 +4,12 @@ ghost use Rattle.drg_array.specs.Entries.{diameter};
 ghost use Rattle.drg_replay.specs.Answers.{TakesLine};
 ghost use Rattle.drg_replay.specs.Claims.{claim_is_met as the_claim_is_met};
 ghost use Rattle.drg_replay.specs.Lines.{known_at_start};
-ghost use Rattle.drg_derivation.specs.declared.line.Line.TheVariants.{K, P, Frame as FrameLine};
+ghost use Rattle.drg_derivation.specs.declared.line.Line.TheVariants.{K, P, Frame as FrameLine, Theta, Prow, Qrow};
 
 use crate::counts::Counts;
 use crate::frame::{Frame, check_frame};
 use crate::index::index;
-use crate::refusal::{Fault, not_built};
+use crate::refusal::{Fault, Refusal, not_built};
 use crate::rows::check_row;
 use crate::sizes::check_sizes;
 use drg_array::{Array, Claim};
@@ -41,7 +41,8 @@ impl Model for Known {
         × (length k.counts.rows ≡ diameter k.array + 1) };
 }
 
-fn copied(alloc: Global, numbers: &NumberList) -> Result<NumberList, AllocError>
+/// A copy of the numbers.
+pub fn copied(alloc: Global, numbers: &NumberList) -> Result<NumberList, AllocError>
     ensures { IfOk result (λ copy. copy ≡ numbers.now) }
 {
     Ok(NumberList::new(numbers.as_slice().to_vec(alloc)?))
@@ -86,6 +87,13 @@ impl Known {
         &self.counts
     }
 
+    /// What the `frame` line and those that need it state, where it stands.
+    pub fn frame(&self) -> &Option<Frame>
+        ensures { result.now ≡ self.now.frame }
+    {
+        &self.frame
+    }
+
     /// Whether a `frame` line stands.
     pub fn framed(&self) -> bool
         ensures { result ≡ is_some self.now.frame }
@@ -127,8 +135,40 @@ impl Known {
         ensures { TakesLine result (FrameLine root) self.old self.new }
     {
         check_frame(self, root)?;
-        self.frame = Some(Frame::new(root));
+        self.frame = Some(Frame::new(self.alloc, root));
         Ok(())
+    }
+
+    /// Takes a `theta` line.
+    fn take_theta(&mut self, i: i128, values: &NumberList) -> Result<(), Fault>
+        ensures { TakesLine result (Theta i values.now) self.old self.new }
+    {
+        match &mut self.frame {
+            Some(frame) => frame.take_theta(self.alloc, &self.array, i, values),
+            None => Err(Fault::Refused(Refusal::NotMet)),
+        }
+    }
+
+    /// Takes a `prow` line.
+    fn take_prow(&mut self, i: i128, values: &NumberList) -> Result<(), Fault>
+        ensures { TakesLine result (Prow i values.now) self.old self.new }
+    {
+        match &mut self.frame {
+            Some(frame) => frame.take_prow(self.alloc, &self.array, i, values),
+            None => Err(Fault::Refused(Refusal::NotMet)),
+        }
+    }
+
+    /// Takes a `qrow` line.
+    fn take_qrow(&mut self, r: i128, values: &NumberList) -> Result<(), Fault>
+        ensures { TakesLine result (Qrow r values.now) self.old self.new }
+    {
+        match &mut self.frame {
+            Some(frame) => {
+                frame.take_qrow(self.alloc, &self.array, self.counts.sizes(), r, values)
+            }
+            None => Err(Fault::Refused(Refusal::NotMet)),
+        }
     }
 
     /// Takes a line. A refusal changes nothing, nor does want of memory.
@@ -139,6 +179,9 @@ impl Known {
             Line::K { values } => self.take_sizes(values),
             Line::P { h, i, values } => self.take_row(*h, *i, values),
             Line::Frame { root } => self.take_frame(*root),
+            Line::Theta { i, values } => self.take_theta(*i, values),
+            Line::Prow { i, values } => self.take_prow(*i, values),
+            Line::Qrow { r, values } => self.take_qrow(*r, values),
             _ => {
                 not_built()?;
                 Ok(())

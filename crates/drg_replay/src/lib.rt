@@ -15,12 +15,15 @@
 mod answer;
 mod claims;
 mod counts;
+mod eigenmatrix;
 mod entries;
+mod field_number;
 mod frame;
 mod index;
 mod judge;
 mod known;
 mod laws;
+mod orthogonality;
 mod parity;
 mod progress;
 mod refusal;
@@ -32,5 +35,7 @@ pub use answer::ReplayFault;
 pub use judge::replay;
 pub use laws::{graph_law, known_alone_law, met_rows_law, met_sizes_law, replayed_law, root_law};
 
+#[cfg(test)]
+mod frame_tests;
 #[cfg(test)]
 mod tests;
