@@ -77,7 +77,7 @@ index_is : (least limit : ℕ) (n : ℤ) → is_index least n limit ≡ true →
 index_is least limit (pos n) h = refl
 index_is least limit (negsuc n) h = cc
 
-index_below : (least limit : ℕ) (n : ℤ) → is_index least n limit ≡ true → unsigned_abs n ≤ limit
+pub index_below : (least limit : ℕ) (n : ℤ) → is_index least n limit ≡ true → unsigned_abs n ≤ limit
 index_below least limit (pos n) h = let b = both (int_le (pos least) (pos n)) (int_le (pos n) (pos limit)) h in omega (arith, ints)
 index_below least limit (negsuc n) h = cc
 

@@ -8,5 +8,8 @@ pub mod AloneLaws
 pub mod PlaceLaws
 pub mod ValueLaws
 pub mod CountLaws
+mod SumLaws
+pub mod FrameLaws
 pub mod Soundness
+pub mod SpectralLaws
 pub mod ReplayedLaws

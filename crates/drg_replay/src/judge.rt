@@ -1,9 +1,10 @@
 //! A judge, who is fed with lines.
 ghost use Rattle.std.specs.Prelude.{◌≡◌, ◌≢◌, ◌+◌, ◌<◌, ◌^◌, List, [], ◌∷◌, reverse, Ok, Err, IfOk, OnOk, OnErr};
 ghost use Rattle.drg_array.specs.Entries.{Entries};
-ghost use Rattle.drg_array.specs.declared.claim.Class.TheVariants.{Counting};
+ghost use Rattle.drg_array.specs.declared.claim.Class.TheVariants.{Counting, Spectral};
 ghost use Rattle.drg_graph.specs.Graph.{NoGraph};
 ghost use Rattle.drg_replay.specs.Lines.{known_at_end};
+ghost use Rattle.drg_replay.specs.Spectral.{SpectralHolds};
 ghost use Rattle.drg_replay.specs.HasJudged.{HasJudged};
 ghost use Rattle.drg_replay.specs.Answers.{answer_of, answer_after, answer_at, accepted_class};
 ghost use Rattle.drg_replay.specs.declared.progress.Progress.TheVariants.{AllMet};
@@ -14,7 +15,7 @@ ghost use Rattle.drg_derivation.specs.declared.line.Line.{Line};
 use crate::answer::ReplayFault;
 use crate::claims::{check_closing, claim_is_met};
 use crate::known::Known;
-use crate::laws::{class_law, graph_law};
+use crate::laws::{class_law, graph_law, spectral_law};
 use crate::progress::Progress;
 use crate::refusal::{Fault, Refusal};
 use drg_array::{Array, Claim, Class};
@@ -124,13 +125,16 @@ pub fn replay_lines(
 
 /// The class of a derivation that is accepted, or why it isn't, by the first line that decides.
 /// Each answer but want of memory comes exactly where the definition gives it. An answer Counting
-/// excludes every graph that has the array.
+/// excludes every graph that has the array, and an answer Spectral says that the written frame is one
+/// of the array and that the condition of the claim fails at its numbers.
 pub fn replay(alloc: Global, derivation: &Derivation) -> Result<Class, ReplayFault>
     ensures answer { result ≢ Err Memory → result ≡ answer_of derivation.now }
     ensures class { IfOk result (λ class. class ≡ accepted_class (known_at_end derivation.now)) }
     ensures graph { result ≡ Ok Counting → NoGraph derivation.now.array }
+    ensures spectral { result ≡ Ok Spectral → SpectralHolds derivation.now }
 {
     graph_law();
+    spectral_law();
     class_law();
     derivation.array.known_valid();
     replay_lines(

@@ -1,6 +1,7 @@
 //! The laws of the answer and of met lines.
 ghost use Rattle.drg_replay.specs.Roots.{RootLaw};
 ghost use Rattle.drg_replay.specs.Laws.{ClassLaw, KnownAloneLaw, KnownRowsLaw, KnownSizesLaw, ReplayedLaw};
+ghost use Rattle.drg_replay.specs.Spectral.{SpectralLaw};
 ghost use Rattle.drg_replay.specs.Soundness.{GraphLaw, MetRowsLaw, MetSizesLaw};
 
 use drg_graph::{
@@ -32,6 +33,12 @@ pub fn graph_law()
     induced_law();
     triangles_law();
 }
+
+/// The written numbers of a derivation that is accepted with a frame are a frame of its array, and
+/// its condition fails at them.
+pub fn spectral_law()
+    ensures { SpectralLaw }
+{}
 
 /// What lines come to after others depends on what those make known alone, up to the numbers of the
 /// lines.

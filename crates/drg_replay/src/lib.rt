@@ -33,7 +33,9 @@ mod sizes;
 
 pub use answer::ReplayFault;
 pub use judge::replay;
-pub use laws::{graph_law, known_alone_law, met_rows_law, met_sizes_law, replayed_law, root_law};
+pub use laws::{
+    graph_law, known_alone_law, met_rows_law, met_sizes_law, replayed_law, root_law, spectral_law,
+};
 
 #[cfg(test)]
 mod frame_tests;
