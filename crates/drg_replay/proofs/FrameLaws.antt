@@ -1,5 +1,5 @@
 -- Met lines of a frame hold a frame.
-use Rattle.std.proofs.Common.{◌≡◌, ℕ, zero, suc, ◌+◌, ◌<◌, ◌≤◌, Bool, true, false, List, [], ◌∷◌, ◌++◌, length, refl, sym, ap, ap₂, ◌∙◌, subst, arith, inl, inr, Option, Some, None, map}
+use Rattle.std.proofs.Common.{◌≡◌, ℕ, zero, suc, ◌+◌, ◌<◌, ◌≤◌, Bool, true, false, List, [], ◌∷◌, ◌++◌, length, refl, sym, ap, ap₂, ◌∙◌, subst, arith, inl, inr, Option, Some, None, Ok, map}
 use Rattle.std.specs.Prelude.{ℤ, pos, ⊤, is_some, ◌⊎◌, ◌&&◌, nat_eq, nat_lt, unsigned_abs, is_none, slice_index_or, if◌then◌else◌}
 use Rattle.std.specs.List.{range_with_len}
 use Rattle.std.proofs.lemmas.Bool.Decides.{nat_tests}
@@ -23,7 +23,7 @@ use Rattle.drg_quadratic.specs.Values.{IsRoot, IsOver, Value, nil, unit, plus, m
 use Rattle.drg_quadratic.specs.Operations.{value_operations}
 use Rattle.drg_quadratic.specs.Laws.{value_laws}
 use Rattle.drg_replay.specs.Known.{KnownContent, FrameContent}
-use Rattle.drg_replay.specs.Steps.{Step, Holds, Fits, EachHolds}
+use Rattle.drg_replay.specs.Steps.{Step, Holds, Fits, EachHolds, first_failure}
 use Rattle.drg_replay.specs.Indices.{is_index}
 use Rattle.drg_replay.specs.Sizes.{values_of, vertex_count, is_full, size_steps}
 use Rattle.drg_replay.specs.Rows.{b_before}
@@ -33,7 +33,7 @@ use Rattle.drg_replay.specs.Frames.{is_spectral, frame_steps, line_at, theta_at,
 use Rattle.drg_replay.specs.Lines.{with_theta, with_prow, with_qrow, frame_after, known_of, steps_of}
 use Rattle.drg_replay.specs.Answers.{AllAreMet}
 use Rattle.drg_replay.proofs.StepLaws.{each_holds, is_same, are_same}
-use Rattle.drg_replay.proofs.ProgressLaws.{array_stays}
+use Rattle.drg_replay.proofs.ProgressLaws.{array_stays, claim_stays}
 use Rattle.drg_replay.proofs.SizeLaws.{Sized}
 use Rattle.drg_replay.proofs.CountLaws.{count_is}
 use Rattle.drg_replay.proofs.RowLaws.{front, end, length_more, two_cases}
@@ -394,3 +394,19 @@ pub spectral_claim : (a : Entries) (c : Claim) (sizes : Option (List ℤ)) (fram
 unfolding IfFramed
 spectral_claim a c sizes None e h = cc
 spectral_claim a c sizes (Some f) e h = h.1
+
+no_frame : (a : Entries) (c : Claim) (sizes : Option (List ℤ)) (frame : Option FrameContent) → is_spectral (class_of c) ≡ false → IfFramed a c sizes frame → frame ≡ None
+unfolding IfFramed
+no_frame a c sizes None e known = refl
+no_frame a c sizes (Some f) e known = absurd (never (is_spectral (class_of c)) known.1 e)
+
+-- met lines for a claim of the class Counting have no frame
+pub counting_unframed : (a : Entries) (claim : Claim) → IsArray a → (lines : List Line) → AllAreMet a claim lines → is_spectral (class_of claim) ≡ false → (known_of a claim lines).frame ≡ None
+counting_unframed a claim array lines met e =
+    let k = known_of a claim lines in
+    no_frame k.array k.claim k.counts.sizes k.frame (subst (λ c. is_spectral (class_of c) ≡ false) (sym (claim_stays a claim lines)) e) (frame_known a claim array lines met)
+
+-- and a line that needs a frame isn't met then
+pub needs_frame : (frame : Option FrameContent) (steps : FrameContent → List Step) → frame ≡ None → first_failure (in_frame frame steps) ≡ Ok tt → ⊥
+needs_frame None steps e h = cc
+needs_frame (Some f) steps e h = cc
