@@ -30,6 +30,8 @@ CLAIMS and, once it is judged, two methods and an entry in CLAIM_RULES.
 
 import re
 import sys
+from fractions import Fraction
+from math import gcd
 from typing import Callable, Container, Dict, List, NamedTuple, Optional, Tuple
 
 BOUND = 2**127 - 1
@@ -299,6 +301,78 @@ def is_squarefree(n: int) -> bool:
     return True
 
 
+def add(x: Fraction, y: Fraction, sign: int = 1) -> Fraction:
+    """x + y, or x - y with the sign -1."""
+    g = gcd(x.denominator, y.denominator)
+    left = work(x.numerator * (y.denominator // g))
+    right = work(y.numerator * (x.denominator // g))
+    total = work(left + sign * right)
+    return Fraction(total, work(x.denominator * (y.denominator // g)))
+
+
+def multiply(x: Fraction, y: Fraction) -> Fraction:
+    g = gcd(x.numerator, y.denominator)
+    h = gcd(y.numerator, x.denominator)
+    over = work((x.numerator // g) * (y.numerator // h))
+    return Fraction(over, work((x.denominator // h) * (y.denominator // g)))
+
+
+class FieldNumber(NamedTuple):
+    """The number a + b√root. The root is the same for all and kept apart."""
+
+    a: Fraction
+    b: Fraction
+
+    def plus(self, other: "FieldNumber", sign: int = 1) -> "FieldNumber":
+        return FieldNumber(add(self.a, other.a, sign), add(self.b, other.b, sign))
+
+    def times(self, root: int, other: "FieldNumber") -> "FieldNumber":
+        first = multiply(self.a, other.a)
+        second = multiply(Fraction(root), multiply(self.b, other.b))
+        a = add(first, second)
+        return FieldNumber(
+            a, add(multiply(self.a, other.b), multiply(self.b, other.a))
+        )
+
+    def is_positive(self, root: int) -> bool:
+        if self.a >= 0 and self.b >= 0:
+            return self.a > 0 or self.b > 0
+        if self.a <= 0 and self.b <= 0:
+            return False
+        square = multiply(self.a, self.a)
+        other = multiply(Fraction(root), multiply(self.b, self.b))
+        difference = add(square, other, -1)
+        return difference > 0 if self.a > 0 else difference < 0
+
+    def is_count(self) -> bool:
+        """Whether it is a positive whole number."""
+        return self.b == 0 and self.a.denominator == 1 and self.a > 0
+
+
+def whole(n: int) -> FieldNumber:
+    return FieldNumber(Fraction(n), Fraction(0))
+
+
+def dot(root: int, xs: List[FieldNumber], ys: List[FieldNumber]) -> FieldNumber:
+    """The sum of the products at each place, from left to right."""
+    products = [x.times(root, y) for x, y in zip(xs, ys)]
+    total = products[0]
+    for product in products[1:]:
+        total = total.plus(product)
+    return total
+
+
+def read_field_numbers(root: int, numbers: List[int]) -> Optional[List[FieldNumber]]:
+    """The field numbers; None where one isn't in lowest terms."""
+    pairs = list(zip(numbers[0::2], numbers[1::2]))
+    if not all(den > 0 and gcd(num, den) == 1 for num, den in pairs):
+        return None
+    fractions = [Fraction(num, den) for num, den in pairs]
+    if root == 0:
+        return [FieldNumber(x, Fraction(0)) for x in fractions]
+    return [FieldNumber(a, b) for a, b in zip(fractions[0::2], fractions[1::2])]
+
+
 class Judge:
     """Judges one derivation. Holds what the lines met so far have shown."""
 
@@ -308,7 +382,11 @@ class Judge:
         self.evidence = derivation.evidence
         self.sizes: Optional[List[int]] = None  # the k line
         self.rows: Dict[Tuple[int, int], List[int]] = {}  # p lines, by (h, i)
-        self.spectral = False
+        self.spectral = False  # a frame line stands
+        self.root = 0
+        self.theta: List[FieldNumber] = []
+        self.p: List[List[FieldNumber]] = []
+        self.q: List[List[FieldNumber]] = []
 
     def judge(self) -> Answer:
         line = 3
@@ -410,13 +488,81 @@ class Judge:
         if self.spectral or self.all_sizes() is None or self.claim.name not in SPECTRAL:
             return False
         self.spectral = True
+        self.root = root
         return root == 0 or (2 <= root < 2**32 and is_squarefree(root))
 
-    # Claims: the ranges of their numbers, and where they are closed.
+    def theta_met(self, numbers: List[int]) -> bool:
+        values = read_field_numbers(self.root, numbers[1:])
+        count = len(self.theta)
+        if not self.spectral or values is None:
+            return False
+        if numbers[0] != count or count > self.array.d:
+            return False
+        (x,) = values
+        if count > 0 and not self.theta[-1].plus(x, -1).is_positive(self.root):
+            return False
+        self.theta.append(x)
+        return True
 
-    def never_closed(self, i: int) -> bool:
-        """No rule closes the claim yet."""
-        return False
+    def prow_met(self, numbers: List[int]) -> bool:
+        row = read_field_numbers(self.root, numbers[1:])
+        d, count = self.array.d, len(self.p)
+        if not self.spectral or row is None or len(self.theta) != d + 1:
+            return False
+        if numbers[0] != count or count > d:
+            return False
+        theta = self.theta[count]
+        if row[0] != whole(1) or row[1] != theta:
+            return False
+        for j in range(d + 1):
+            left = theta.times(self.root, row[j])
+            if left != self.neighbours(row, j):
+                return False
+        self.p.append(row)
+        return True
+
+    def neighbours(self, row: List[FieldNumber], j: int) -> FieldNumber:
+        """The right side of the equation of a prow line for j."""
+        array = self.array
+        terms: List[Tuple[int, FieldNumber]] = []
+        if j >= 1:
+            terms.append((array.b[j - 1], row[j - 1]))
+        terms.append((array.a(j), row[j]))
+        if j < array.d:
+            terms.append((array.c[j + 1], row[j + 1]))
+        coefficients = [whole(coefficient) for coefficient, _ in terms]
+        return dot(self.root, coefficients, [x for _, x in terms])
+
+    def qrow_met(self, numbers: List[int]) -> bool:
+        row = read_field_numbers(self.root, numbers[1:])
+        d, count = self.array.d, len(self.q)
+        if not self.spectral or row is None or len(self.p) != d + 1:
+            return False
+        if numbers[0] != count or count > d:
+            return False
+        rows = self.q + [row]
+        if count == d and not self.product_holds(rows):
+            return False
+        self.q = rows
+        return True
+
+    def product_holds(self, rows: List[List[FieldNumber]]) -> bool:
+        """Whether P Q = n I, where Q has these rows."""
+        sizes = self.all_sizes()
+        assert sizes is not None
+        n: Optional[int] = None
+        for i, row in enumerate(self.p):
+            for j in range(self.array.d + 1):
+                left = dot(self.root, row, [other[j] for other in rows])
+                if n is None:
+                    n = 0
+                    for size in sizes:
+                        n = work(n + size)
+                if left != whole(n if i == j else 0):
+                    return False
+        return True
+
+    # Claims: the ranges of their numbers, and where they are closed.
 
     def first_in_range(self) -> bool:
         return True
@@ -475,6 +621,9 @@ class Judge:
             return False
         return sum(k) * k[i] * row[i] % 6 != 0
 
+    def mult_closed(self, i: int) -> bool:
+        return len(self.q) == self.array.d + 1 and not self.q[0][i].is_count()
+
 
 # The claims of class spectral.
 SPECTRAL = ("mult", "krein", "absolute", "ktriple")
@@ -484,6 +633,9 @@ LINE_RULES: Dict[str, Callable[[Judge, List[int]], bool]] = {
     "k": Judge.k_met,
     "p": Judge.p_met,
     "frame": Judge.frame_met,
+    "theta": Judge.theta_met,
+    "prow": Judge.prow_met,
+    "qrow": Judge.qrow_met,
 }
 
 # Each claim that is judged: where its line is met, and where it is closed.
@@ -496,7 +648,7 @@ CLAIM_RULES: Dict[str, Tuple[Callable[..., bool], Callable[..., bool]]] = {
     "intersect": (Judge.intersect_in_range, Judge.intersect_closed),
     "handshake": (Judge.one_to_d, Judge.handshake_closed),
     "induced": (Judge.induced_in_range, Judge.induced_closed),
-    "mult": (Judge.one_to_d, Judge.never_closed),
+    "mult": (Judge.one_to_d, Judge.mult_closed),
     "triangles": (Judge.one_to_d, Judge.triangles_closed),
 }
 

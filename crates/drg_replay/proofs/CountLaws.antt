@@ -1,7 +1,6 @@
 -- The sum of the numbers of a full `k` line is the number of vertices of the array.
-use Rattle.std.proofs.Common.{◌≡◌, ℕ, zero, suc, ◌+◌, ◌<◌, ◌≤◌, List, [], ◌∷◌, length, refl, sym, ap, ◌∙◌, subst, arith, Option}
+use Rattle.std.proofs.Common.{◌≡◌, ℕ, zero, suc, ◌<◌, ◌≤◌, List, [], ◌∷◌, length, refl, sym, ap, ◌∙◌, subst, arith, Option}
 use Rattle.std.specs.Prelude.{ℤ, pos, ◌+ℤ◌, ◌*ℤ◌, slice_index_or}
-use Rattle.std.proofs.lemmas.Int.{ints}
 use Rattle.drg_algebra.specs.Rational.{ℚ, whole, plus, times, rationals}
 use Rattle.drg_algebra.specs.Ring.{◌⊗◌}
 use Rattle.drg_algebra.specs.Integer.{integers, ring2}

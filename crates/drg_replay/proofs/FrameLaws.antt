@@ -1,14 +1,13 @@
 -- Met lines of a frame hold a frame.
-use Rattle.std.proofs.Common.{◌≡◌, ℕ, zero, suc, ◌+◌, ◌<◌, ◌≤◌, Bool, true, false, List, [], ◌∷◌, ◌++◌, length, refl, sym, ap, ap₂, ◌∙◌, subst, arith, inl, inr, Option, Some, None, Ok, map}
-use Rattle.std.specs.Prelude.{ℤ, pos, ⊤, is_some, ◌⊎◌, ◌&&◌, nat_eq, nat_lt, unsigned_abs, is_none, slice_index_or, if◌then◌else◌}
-use Rattle.std.specs.List.{range_with_len}
+use Rattle.std.proofs.Common.{◌≡◌, ℕ, zero, suc, ◌+◌, ◌<◌, ◌≤◌, true, false, List, [], ◌∷◌, ◌++◌, length, refl, sym, ap, ap₂, ◌∙◌, subst, arith, inl, inr, Option, Some, None, Ok}
+use Rattle.std.specs.Prelude.{ℤ, pos, ⊤, is_some, ◌⊎◌, nat_eq, nat_lt, unsigned_abs, if◌then◌else◌}
 use Rattle.std.proofs.lemmas.Bool.Decides.{nat_tests}
 use Rattle.drg_algebra.specs.Rational.{whole}
 use Rattle.drg_algebra.specs.Ring.{none, ◌⊗◌, ring2}
 use Rattle.drg_algebra.specs.Tables.{delta, total}
 use Rattle.drg_algebra.proofs.Tests.{both, decided, never}
 use Rattle.drg_array.proofs.EntryLemmas.{c-end}
-use Rattle.drg_array.specs.Entries.{Entries, IsArray, diameter, b_at, c_at, a_at}
+use Rattle.drg_array.specs.Entries.{Entries, IsArray, diameter, b_at, c_at}
 use Rattle.drg_derivation.specs.declared.line.Line.{Line}
 use Rattle.drg_derivation.specs.declared.line.Line.TheVariants.{K, Frame, Theta, Prow, Qrow}
 use Rattle.drg_array.specs.Claims.{class_of}
@@ -28,8 +27,8 @@ use Rattle.drg_replay.specs.Indices.{is_index}
 use Rattle.drg_replay.specs.Sizes.{values_of, vertex_count, is_full, size_steps}
 use Rattle.drg_replay.specs.Rows.{b_before}
 use Rattle.drg_replay.specs.Roots.{is_root}
-use Rattle.drg_replay.specs.FieldNumbers.{are_field_numbers, value_at, is_same_value, sign_at, is_greater}
-use Rattle.drg_replay.specs.Frames.{is_spectral, frame_steps, line_at, theta_at, p_at, q_at, is_next, all_stand, descent_steps, theta_steps, coefficients, value_before, neighbours, recurrence_steps, recurrences_from, begins_row, prow_steps, row_values, column_values, diagonal, cell_steps, cells_from, product_rows, product_steps, is_last, qrow_steps, in_frame}
+use Rattle.drg_replay.specs.FieldNumbers.{value_at, is_same_value}
+use Rattle.drg_replay.specs.Frames.{is_spectral, frame_steps, line_at, theta_at, p_at, q_at, is_next, descent_steps, theta_steps, coefficients, value_before, neighbours, recurrence_steps, recurrences_from, begins_row, prow_steps, row_values, column_values, diagonal, cell_steps, cells_from, product_rows, product_steps, is_last, qrow_steps, in_frame}
 use Rattle.drg_replay.specs.Lines.{with_theta, with_prow, with_qrow, frame_after, known_of, steps_of}
 use Rattle.drg_replay.specs.Answers.{AllAreMet}
 use Rattle.drg_replay.proofs.StepLaws.{each_holds, is_same, are_same}

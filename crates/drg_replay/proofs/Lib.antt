@@ -10,6 +10,7 @@ pub mod ValueLaws
 pub mod CountLaws
 mod SumLaws
 pub mod FrameLaws
+pub mod RationalRootLaws
 pub mod Soundness
 pub mod SpectralLaws
 pub mod ReplayedLaws

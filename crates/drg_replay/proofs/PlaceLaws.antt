@@ -1,5 +1,5 @@
 -- Steps for places one after the other, as a function takes them.
-use Rattle.std.proofs.Common.{◌≡◌, ℕ, zero, suc, ◌-◌, ◌+◌, List, [], ◌∷◌, ◌++◌, length, Ok, Err, refl, sym, arith, map}
+use Rattle.std.proofs.Common.{◌≡◌, ℕ, zero, suc, ◌-◌, ◌+◌, List, [], ◌∷◌, length, Ok, Err, refl, sym, arith, map}
 use Rattle.std.specs.Prelude.{ℤ, ◌≢◌}
 use Rattle.std.specs.List.{range_with_len}
 use Rattle.drg_array.specs.Entries.{Entries}

@@ -1,5 +1,5 @@
 -- The claims whose line can be met are those of the list.
-use Rattle.std.proofs.Common.{◌≡◌, ℕ, zero, suc, ◌<◌, true, List, [], ◌∷◌, length, refl, arith}
+use Rattle.std.proofs.Common.{◌≡◌, ℕ, zero, suc, ◌<◌, true, [], ◌∷◌, length, refl, arith}
 use Rattle.std.specs.Prelude.{Contains, slice_index_or}
 use Rattle.drg_array.specs.Entries.{Entries}
 use Rattle.drg_array.specs.Claims.{name_of}

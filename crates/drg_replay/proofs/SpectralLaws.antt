@@ -1,30 +1,27 @@
 -- What a derivation that is accepted with a frame says.
-use Rattle.std.proofs.Common.{◌≡◌, ℕ, ◌+◌, ◌<◌, Bool, true, false, List, length, reverse, Ok, refl, sym, ap, ◌∙◌, subst, arith, Option, Some, None}
-use Rattle.std.specs.Prelude.{ℤ, pos, ◌&&◌, not, is_some, int_lt, if◌then◌else◌}
-use Rattle.std.specs.Ordering.{int_eq}
+use Rattle.std.proofs.Common.{◌≡◌, ℕ, ◌+◌, ◌<◌, Bool, true, false, length, reverse, Ok, refl, sym, ap, ◌∙◌, subst, arith, Option, Some, None}
+use Rattle.std.specs.Prelude.{pos, int_lt}
 use Rattle.std.proofs.lemmas.Int.{ints}
 use Rattle.std.proofs.lemmas.Bool.Decides.{Decides-int_eq}
-use Rattle.drg_algebra.specs.Rational.{whole}
 use Rattle.drg_algebra.specs.Reduced.{numerator, denominator}
 use Rattle.drg_algebra.proofs.WholeParts.{numerator_whole, denominator_whole}
 use Rattle.drg_algebra.proofs.Tests.{and-in}
-use Rattle.drg_array.specs.Entries.{Entries, IsArray, diameter}
+use Rattle.drg_array.specs.Entries.{IsArray}
 use Rattle.drg_array.specs.Claims.{class_of}
 use Rattle.drg_array.specs.declared.claim.Claim.{Claim}
 use Rattle.drg_array.specs.declared.claim.Claim.TheVariants as claim
-use Rattle.drg_array.specs.declared.claim.Class.{Class}
-use Rattle.drg_array.specs.declared.claim.Class.TheVariants.{Counting, Spectral}
+use Rattle.drg_array.specs.declared.claim.Class.TheVariants.{Spectral}
 use Rattle.drg_derivation.specs.Content.{Content}
 use Rattle.drg_matrix.specs.Frame.{IsFrame}
 use Rattle.drg_quadratic.specs.Values.{Value}
 use Rattle.drg_quadratic.specs.Operations.{value_operations}
 use Rattle.drg_replay.specs.Known.{KnownContent, FrameContent}
 use Rattle.drg_replay.specs.Steps.{EachHolds, first_failure}
-use Rattle.drg_replay.specs.Frames.{is_spectral, theta_at, p_at, q_at, all_stand}
+use Rattle.drg_replay.specs.Frames.{is_spectral, theta_at, p_at, q_at}
 use Rattle.drg_replay.specs.Lines.{known_of, known_at_end}
 use Rattle.drg_replay.specs.Claims.{is_positive_whole, mult_closing, closing_of, closing_steps}
 use Rattle.drg_replay.specs.Answers.{AllAreMet, progress_of, accepted_class}
-use Rattle.drg_replay.specs.Spectral.{WritesFrame, IsCount, FailsMult, SpectralSays, SpectralLaw}
+use Rattle.drg_replay.specs.Spectral.{IsCount, FailsMult, SpectralSays, SpectralLaw}
 use Rattle.drg_replay.proofs.StepLaws.{each_holds, not_met, is_same}
 use Rattle.drg_replay.proofs.ProgressLaws.{all_are_met, array_stays, claim_stays, accepted}
 use Rattle.drg_replay.proofs.Soundness.{sizes_known}

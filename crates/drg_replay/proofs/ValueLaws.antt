@@ -1,16 +1,16 @@
 -- The tests of field numbers decide what they ask.
-use Rattle.std.proofs.Common.{◌≡◌, ℕ, ◌+◌, ◌-◌, ◌<◌, Bool, true, false, refl, sym, ap, ap₂, ◌∙◌, subst}
-use Rattle.std.specs.Prelude.{ℤ, ◌↔◌, ◌&&◌, IsTrue}
+use Rattle.std.proofs.Common.{◌≡◌, ℕ, Bool, true, false, refl, sym, ap, ◌∙◌, subst}
+use Rattle.std.specs.Prelude.{◌↔◌, IsTrue}
 use Rattle.std.specs.Ordering.{int_eq}
 use Rattle.std.specs.declared.cmp.Ordering.{Ordering}
 use Rattle.std.specs.declared.cmp.Ordering.TheVariants.{Less, Equal, Greater}
 use Rattle.std.proofs.lemmas.Bool.Decides.{Decides-int_eq}
-use Rattle.drg_algebra.specs.Rational.{ℚ, whole}
+use Rattle.drg_algebra.specs.Rational.{ℚ}
 use Rattle.drg_algebra.specs.Reduced.{numerator, denominator, one_value}
 use Rattle.drg_algebra.specs.Pairs.{pair_path}
 use Rattle.drg_algebra.proofs.Tests.{both, and-in, not-false}
 use Rattle.drg_fraction.specs.Operations.{Operations}
-use Rattle.drg_quadratic.specs.Values.{IsRoot, IsOver, Value, minus, norm}
+use Rattle.drg_quadratic.specs.Values.{IsRoot, IsOver, Value, norm}
 use Rattle.drg_quadratic.specs.Work.{sign_of}
 use Rattle.drg_quadratic.specs.declared.quadratic.Quadratic.{Quadratic}
 use Rattle.drg_quadratic.specs.Quadratic.{value_of, root_of}

@@ -3,7 +3,7 @@
 use Rattle.std.specs.Prelude.{ℕ, zero, suc, ◌+◌, ◌*◌, nat_eq, ℤ, pos, int_lt, Bool, true, false, ◌&&◌, not, if◌then◌else◌, List, length, slice_index_or}
 use Rattle.std.specs.Ordering.{int_eq, ordering_then, ordering_reverse}
 use Rattle.std.specs.declared.cmp.Ordering.{Ordering}
-use Rattle.std.specs.declared.cmp.Ordering.TheVariants.{Less, Equal, Greater}
+use Rattle.std.specs.declared.cmp.Ordering.TheVariants.{Less, Greater}
 use Rattle.drg_algebra.specs.Rational.{ℚ, whole}
 use Rattle.drg_algebra.specs.Ratio.{ratio}
 use Rattle.drg_algebra.specs.Reduced.{numerator, denominator, common}

@@ -7,6 +7,7 @@ pub mod Indices
 pub mod Known
 pub mod Laws
 pub mod Lines
+pub mod RationalRoots
 pub mod Roots
 pub mod Rows
 pub mod Sizes

@@ -1,4 +1,5 @@
 //! The laws of the answer and of met lines.
+ghost use Rattle.drg_replay.specs.RationalRoots.{RationalRootLaw};
 ghost use Rattle.drg_replay.specs.Roots.{RootLaw};
 ghost use Rattle.drg_replay.specs.Laws.{ClassLaw, KnownAloneLaw, KnownRowsLaw, KnownSizesLaw, ReplayedLaw};
 ghost use Rattle.drg_replay.specs.Spectral.{SpectralLaw};
@@ -69,4 +70,10 @@ pub fn met_rows_law()
 /// is taken.
 pub fn root_law()
     ensures { RootLaw }
+{}
+
+/// Over root 0 the values of a derivation are fractions, and their sums, differences, products and
+/// signs fit exactly where those of the fractions do.
+pub fn rational_root_law()
+    ensures { RationalRootLaw }
 {}

@@ -4,12 +4,14 @@
 //! is met, or not, by a list of conditions on what the lines before it make known
 //! (specs/Lines.antt), and the first line that decides gives the answer. `replay` gives exactly
 //! that answer. A derivation that is accepted with the class Counting excludes every graph, and the
-//! numbers of met lines are counts in every graph of the array (specs/Soundness.antt). What further
-//! lines come to depends on what is known before them alone (specs/Laws.antt).
+//! numbers of met lines are counts in every graph of the array (specs/Soundness.antt). One that is
+//! accepted with the class Spectral writes a frame of its array, at whose numbers the condition of
+//! the claim fails (specs/Spectral.antt). What further lines come to depends on what is known
+//! before them alone (specs/Laws.antt).
 //!
 //! The rules that are built are those of the claims first, degree, order, cross, size, intersect,
-//! handshake, induced and triangles and of the lines `k`, `p` and `frame`. The claim mult is met,
-//! and is never closed yet. No other claim or line is met yet.
+//! handshake, induced, triangles and mult and of the lines `k`, `p`, `frame`, `theta`, `prow` and
+//! `qrow`. No other claim or line is met yet.
 #![tactic(auto)]
 
 mod answer;
@@ -34,7 +36,8 @@ mod sizes;
 pub use answer::ReplayFault;
 pub use judge::replay;
 pub use laws::{
-    graph_law, known_alone_law, met_rows_law, met_sizes_law, replayed_law, root_law, spectral_law,
+    graph_law, known_alone_law, met_rows_law, met_sizes_law, rational_root_law, replayed_law,
+    root_law, spectral_law,
 };
 
 #[cfg(test)]
