@@ -47,7 +47,7 @@ fn dot_rest(
 ) -> Result<Quadratic, Wide>
     requires places { l + left ≡ length earlier.now + 1 }
     requires short { length earlier.now ≤ 16 }
-    requires column { j ≤ 16 }
+    requires column { j ≤ length earlier.now }
     ensures value { let root = root_of so_far in
         let o = value_operations root in
         let xs = row_values root row.now l left in
@@ -74,7 +74,7 @@ fn cell(
 ) -> Result<Quadratic, Wide>
     requires root { IsRoot root }
     requires short { length earlier.now ≤ 16 }
-    requires column { j ≤ 16 }
+    requires column { j ≤ length earlier.now }
     ensures value { let o = value_operations root in
         let side = length earlier.now + 1 in
         let xs = row_values root row.now 0 side in
@@ -112,7 +112,7 @@ fn check_cell(
 ) -> Result<(), Refusal>
     requires root { IsRoot root }
     requires short { length earlier.now ≤ 16 }
-    requires column { j ≤ 16 }
+    requires column { j ≤ length earlier.now }
     ensures { result ≡ first_failure (cell_steps root (earlier.now ++ last.now ∷ [])
         (length earlier.now + 1) n.value row.now i j) }
 {
