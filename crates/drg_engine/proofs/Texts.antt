@@ -1,18 +1,18 @@
 -- An accepted derivation of a claim that the array fails has a text.
-use Rattle.std.proofs.Common.{◌≡◌, ℕ, zero, suc, ◌+◌, ◌-◌, ◌*◌, ◌^◌, ◌<◌, ◌≤◌, true, List, [], ◌∷◌, length, reverse, Ok, refl, sym, ap, ◌∙◌, subst, arith, inl, inr, Option}
+use Rattle.std.proofs.Common.{◌≡◌, ℕ, zero, suc, ◌+◌, ◌-◌, ◌*◌, ◌^◌, ◌<◌, ◌≤◌, true, false, List, [], ◌∷◌, length, reverse, Ok, None, refl, sym, ap, ◌∙◌, subst, arith, inl, inr, Option}
 use Rattle.std.specs.Prelude.{ℤ, pos, negsuc, ◌*ℤ◌, ◌⊎◌, int_le, unsigned_abs}
 use Rattle.std.specs.List.{AllByRecursion}
 use Rattle.std.proofs.lemmas.Int.{ints, unsigned_abs-mul}
 use Rattle.std.proofs.lemmas.List.{reverse-reverse}
 use Rattle.drg_algebra.proofs.Tests.{both}
 use Rattle.drg_array.specs.Entries.{Entries, IsArray, diameter, c_at}
-use Rattle.drg_array.specs.Claims.{test_of}
+use Rattle.drg_array.specs.Claims.{test_of, class_of}
 use Rattle.drg_array.specs.declared.claim.Claim.{Claim}
 use Rattle.drg_array.specs.declared.claim.Claim.TheVariants.{First, Degree, Order, Cross, Size, Intersect, Handshake, Induced, Triangles}
 use Rattle.drg_array.specs.declared.claim.Class.TheVariants.{Counting}
 use Rattle.drg_array.proofs.EntryLemmas.{c-positive}
 use Rattle.drg_derivation.specs.declared.line.Line.{Line}
-use Rattle.drg_derivation.specs.declared.line.Line.TheVariants.{K, P, Frame}
+use Rattle.drg_derivation.specs.declared.line.Line.TheVariants.{K, P, Frame, Theta, Prow, Qrow}
 use Rattle.drg_derivation.specs.Integers.{IsShort}
 use Rattle.drg_derivation.specs.Lines.{AreEvidence, AreShort}
 use Rattle.drg_derivation.specs.Shapes.{width_of}
@@ -25,6 +25,8 @@ use Rattle.drg_whole.specs.Range.{in_range}
 use Rattle.drg_replay.specs.Sizes.{sizes_from, size_steps}
 use Rattle.drg_replay.specs.Rows.{rows_at, balances_from}
 use Rattle.drg_replay.specs.Indices.{is_index}
+use Rattle.drg_replay.specs.Frames.{is_spectral, theta_steps, prow_steps, qrow_steps}
+use Rattle.drg_replay.proofs.FrameLaws.{counting_unframed, needs_frame}
 use Rattle.drg_replay.specs.Lines.{known_of, steps_of}
 use Rattle.drg_replay.specs.Roots.{IsSquarefreeRoot}
 use Rattle.drg_replay.specs.Answers.{AllAreMet, outcome, progress_of}
@@ -87,9 +89,9 @@ root_short : (root : ℤ) → (root ≡ pos 0) ⊎ IsSquarefreeRoot root → IsS
 root_short root (inl e) = subst IsShort (sym e) (omega arith)
 root_short root (inr r) = (let high = r.high in let short : IsShort (pos r.number) = omega (arith, high) in subst IsShort (sym r.is) short)
 
-stands : (k : KnownContent) → IsArray k.array → (line : Line) → outcome k line ≡ Ok tt → CanStand k.array line
-stands k array (K values) met = sizes_stand k.array array _ values (each_holds (steps_of k (K values)) met)
-stands k array (P h i values) met =
+stands : (k : KnownContent) → IsArray k.array → k.frame ≡ None → (line : Line) → outcome k line ≡ Ok tt → CanStand k.array line
+stands k array none (K values) met = sizes_stand k.array array _ values (each_holds (steps_of k (K values)) met)
+stands k array none (P h i values) met =
     let steps = each_holds (steps_of k (P h i values)) met in
     let small = array.short in
     let d = diameter k.array in
@@ -99,14 +101,17 @@ stands k array (P h i values) met =
       (index_short 1 i d small steps.1.0).1,
       cells_short k.array (unsigned_abs h) (rows_at k.counts.rows (unsigned_abs h)) (unsigned_abs i - 1) 0 values array (above_zero i d steps.1.0) steps.1.1.1.1.1,
     )
-stands k array (Frame root) met = root_short root ((root_found root).0 (each_holds (steps_of k (Frame root)) met).1.1.1.0)
-stands k array line met = cc
+stands k array none (Frame root) met = root_short root ((root_found root).0 (each_holds (steps_of k (Frame root)) met).1.1.1.0)
+stands k array none (Theta i values) met = needs_frame k.frame (λ f. theta_steps k.array f i values) none met
+stands k array none (Prow i values) met = needs_frame k.frame (λ f. prow_steps k.array f i values) none met
+stands k array none (Qrow r values) met = needs_frame k.frame (λ f. qrow_steps k.array k.counts.sizes f r values) none met
+stands k array none line met = cc
 
-all_stand : (a : Entries) (claim : Claim) → IsArray a → (lines : List Line) → AllAreMet a claim lines → AllByRecursion (CanStand a) lines
-all_stand a claim array [] met = tt
-all_stand a claim array (line ∷ earlier) met =
+all_stand : (a : Entries) (claim : Claim) → IsArray a → is_spectral (class_of claim) ≡ false → (lines : List Line) → AllAreMet a claim lines → AllByRecursion (CanStand a) lines
+all_stand a claim array counting [] met = tt
+all_stand a claim array counting (line ∷ earlier) met =
     let here = array_stays a claim earlier in
-    (subst (λ b. CanStand b line) here (stands (known_of a claim earlier) (subst IsArray (sym here) array) line met.1), all_stand a claim array earlier met.0)
+    (subst (λ b. CanStand b line) here (stands (known_of a claim earlier) (subst IsArray (sym here) array) (counting_unframed a claim array earlier met.0 counting) line met.1), all_stand a claim array counting earlier met.0)
 
 all_in : (Q : Line → Type 0) (lines earlier : List Line) → AllByRecursion Q lines → AllByRecursion Q earlier → AllByRecursion Q (onto lines earlier)
 all_in Q [] earlier here there = there
@@ -145,6 +150,19 @@ small a (Induced i j) array built fails = let short = array.short in let h = fai
 small a (Triangles i) array built fails = let short = array.short in let h = fails.0.1 in (omega arith, tt)
 small a claim array built fails = absurd built
 
+-- the tests that are built are of the class Counting
+counts : (claim : Claim) → IsBuilt (test_of claim) → is_spectral (class_of claim) ≡ false
+counts First built = refl
+counts (Degree i) built = refl
+counts (Order i) built = refl
+counts (Cross i j) built = refl
+counts (Size i) built = refl
+counts (Intersect h i j) built = refl
+counts (Handshake i) built = refl
+counts (Induced i j) built = refl
+counts (Triangles i) built = refl
+counts claim built = absurd built
+
 pub has_text : TextLaw
 has_text derivation shows =
     let a = derivation.array in
@@ -153,7 +171,7 @@ has_text derivation shows =
     let answer = answer_is a claim derivation.lines shows.array shows.built shows.fails shows.made shows.lines in
     let end = accepted (progress_of a claim lines) Counting (length lines + 4) answer in
     let met = (all_are_met a claim lines end.known end.all_met).0 in
-    let all = all_back (CanStand a) derivation.lines (all_stand a claim shows.array lines met) in
+    let all = all_back (CanStand a) derivation.lines (all_stand a claim shows.array (counts claim shows.built) lines met) in
     record {
       array = shows.array;
       claim = small a claim shows.array shows.built shows.fails;
