@@ -2,12 +2,13 @@
 use Rattle.std.specs.Prelude.{◌≡◌, ℕ, List, Result, Ok, Err}
 use Rattle.drg_array.specs.declared.claim.Claim.{Claim}
 use Rattle.drg_array.specs.declared.claim.Class.{Class}
-use Rattle.drg_array.specs.declared.claim.Class.TheVariants.{Counting}
+use Rattle.drg_array.specs.declared.claim.Class.TheVariants.{Counting, Spectral}
 use Rattle.drg_derivation.specs.Content.{Content}
 use Rattle.drg_derivation.specs.Text.{Begins}
 use Rattle.drg_derivation.specs.Places.{IsRefusedAt}
 use Rattle.drg_graph.specs.Graph.{NoGraph}
 use Rattle.drg_replay.specs.Answers.{answer_of}
+use Rattle.drg_replay.specs.Spectral.{SpectralHolds}
 use Rattle.drg_replay.specs.declared.answer.ReplayFault.{ReplayFault}
 use Rattle.drg_replay.specs.declared.answer.ReplayFault.TheVariants.{NotMet, Open, Wide, Memory}
 use Rattle.drg_program.specs.AnswerText.{accepted_text, rejected_text, open_text, wide_text}
@@ -27,6 +28,8 @@ pub record Concludes (δ : Content) (status : Status) (text : List ℕ) : Type 0
   pub tells : Tells δ.claim (answer_of δ) status text
   -- what is accepted by counting excludes every graph
   pub graph : answer_of δ ≡ Ok Counting → NoGraph δ.array
+  -- what is accepted with a frame says that its written numbers fail the condition of the claim
+  pub spectral : answer_of δ ≡ Ok Spectral → SpectralHolds δ
 
 -- a derivation stands at the front, and this is its status and its line
 pub record Replays (bytes : List ℕ) (status : Status) (text : List ℕ) : Type 0 where

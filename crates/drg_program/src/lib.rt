@@ -50,7 +50,8 @@ pub const INPUT_LIMIT: usize = 67_108_864;
 /// `infeasible` says that the array fails the claim that is written and no claim before it, that the
 /// derivation that is written is accepted with its class, and, where the class is counting, that no finite
 /// graph is distance-regular with the array. After `replay` they are the answer of the derivation at the
-/// front of the input: `accepted` by counting says of its array, too, that no such graph has it. After
+/// front of the input: `accepted` by counting says of its array, too, that no such graph has it, and
+/// `accepted` with a frame that the written numbers are a frame of its array that fails the claim. After
 /// `graph` they are the answer on the graph whose edges the input lists: `accepted` says that it is
 /// distance-regular with the array that is written, and `rejected` that it is so with no array, as the
 /// vertices that are written show.

@@ -9,4 +9,4 @@ returns c =
     let answer = c.replay-answer.result in
     let found = c.in_ok-output.output in
     let told = subst (λ (δ : Content). Tells δ.claim answer found.status found.text.items) c.derivation.view_is c.in_ok-output.ensures in
-    concludes c.args.derivation.now answer found.status found.text.items c.replay-answer.ensures.answer c.replay-answer.ensures.graph told
+    concludes c.args.derivation.now answer found.status found.text.items c.replay-answer.ensures.answer c.replay-answer.ensures.graph c.replay-answer.ensures.spectral told
