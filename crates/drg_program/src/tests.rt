@@ -167,27 +167,7 @@ const CHECKED: [(&str, &str, Status, &str); 22] = [
 ];
 
 /// Each with its status and its answer.
-const REPLAYED: [(&str, Status, &str); 20] = [
-    // A multiplicity of the array {4,3;1,1} isn't whole: 8 + (4/13)√13.
-    (
-        "drg 1\n\
-array 2 4 3 1 1\n\
-claim mult 1\n\
-k 1 4 12\n\
-frame 13\n\
-theta 0 4 1 0 1\n\
-theta 1 -1 2 1 2\n\
-theta 2 -1 2 -1 2\n\
-prow 0 1 1 0 1 4 1 0 1 12 1 0 1\n\
-prow 1 1 1 0 1 -1 2 1 2 -1 2 -1 2\n\
-prow 2 1 1 0 1 -1 2 -1 2 -1 2 1 2\n\
-qrow 0 1 1 0 1 8 1 4 13 8 1 -4 13\n\
-qrow 1 1 1 0 1 -1 2 25 26 -1 2 -25 26\n\
-qrow 2 1 1 0 1 -1 2 -9 26 -1 2 9 26\n\
-end\n",
-        Status::Accepted,
-        "accepted mult 1 spectral\n",
-    ),
+const REPLAYED: [(&str, Status, &str); 19] = [
     (
         "drg 1\narray 2 3 3 1 1\nclaim degree 2\nend\n",
         Status::Rejected,
@@ -220,7 +200,7 @@ end\n",
         Status::Undecided,
         "undecided wide 4\n",
     ),
-    (MULT, Status::Rejected, "rejected line 6\n"),
+    (MULT, Status::Accepted, "accepted mult 1 spectral\n"),
     (KREIN, Status::Rejected, "rejected line 3\n"),
     (TRIPLE, Status::Rejected, "rejected line 3\n"),
     ("", Status::BadInput { line: 1, at: 0 }, ""),
