@@ -1,0 +1,10 @@
+mod Sums
+mod Formula
+mod FaultLaws
+mod Orders
+mod Cells
+mod FirstFaults
+mod Counts
+mod Products
+mod Full
+mod Meets
