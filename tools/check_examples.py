@@ -9,6 +9,7 @@ Usage: python3 tools/check_examples.py
   that name in examples/derivations and the verdict on its claim. The report is the same where that test
   is the only one selected. Where it is one that can be selected and none is, the array is a survivor.
 - Each derivation, and each such report, is accepted by `drg replay` and by tools/replay.py.
+- Each derivation of examples/spectral is accepted by both, with the claim of its row in examples/README.md.
 - Each text of examples/refused has the answer of its row in examples/README.md, by both. A text that is
   no derivation is named on standard error by the one, and on standard output by the other.
 - Each list of edges of examples/edges is the one that tools/make_edges.py makes, and has the answer of its
@@ -45,6 +46,7 @@ WIDE = {
 COPIES = {"petersen": "graphs", "degree": "fails"}
 ROW = re.compile(r"\| [^|]+ \| `(?P<file>\w+)` \| `(?P<array>\{[\d,;]+\})` \| (?P<n>\d+) \|")
 REFUSED_ROW = re.compile(r"\| `(?P<file>\w+)` \| `(?P<answer>(?:rejected|undecided|bad input,)[^`]+)` \|")
+SPECTRAL_ROW = re.compile(r"\| `\{[\d,;]+\}` \| `(?P<file>\w+)` \| `(?P<answer>accepted [^`]+ spectral)` \|")
 EDGES_ROW = re.compile(r"\| [^|]+ \| `(?P<file>\w+)` \| `(?P<answer>(?:array|single|apart|differ|far)\b[^`]*)` \|")
 EXAMPLE = re.compile(r"^\.EX\n\$ (?P<command>.*)\n(?P<printed>(?:.*\n)*?)\.EE$", re.MULTILINE)
 SURVIVOR, INFEASIBLE, UNDECIDED, ACCEPTED, REJECTED, BAD_INPUT = 0, 1, 3, 0, 5, 65
@@ -210,6 +212,19 @@ def replay_cases():
                 yield holds(f"tools/replay.py {path}", wanted, other_replayer(path))
 
 
+def spectral_cases():
+    """The derivations that no report has yet, by both replayers, against the table."""
+    page = (EXAMPLES / "README.md").read_text(encoding="utf-8")
+    rows = {row["file"]: row["answer"] for row in SPECTRAL_ROW.finditer(page)}
+    same = rows.keys() == names_in("spectral")
+    yield is_true("examples/README.md: its table has each file of examples/spectral and no other", same)
+    for file, answer in sorted(rows.items()):
+        path = f"examples/spectral/{file}.txt"
+        wanted = writes([answer], ACCEPTED)
+        yield holds(f"drg replay {path}", wanted, drg("replay", path))
+        yield holds(f"tools/replay.py {path}", wanted, other_replayer(path))
+
+
 def refused_cases():
     """The texts that aren't accepted, by both replayers, against the table."""
     page = (EXAMPLES / "README.md").read_text(encoding="utf-8")
@@ -285,6 +300,7 @@ def main():
         graph_cases,
         failing_cases,
         replay_cases,
+        spectral_cases,
         refused_cases,
         edge_cases,
         wide_cases,
