@@ -3,8 +3,8 @@
 
 Usage: python3 tools/graph_answer.py FILE..
 
-Written from docs/graphs.md alone, by going over all pairs of vertices, to compare with `drg graph`. It
-takes it that each FILE is a list of edges.
+Goes over all pairs of vertices, as docs/graphs.md says, to compare with `drg graph`, with which it shares
+no code. It takes it that each FILE is a list of edges.
 """
 import sys
 from collections import deque

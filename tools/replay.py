@@ -1,7 +1,7 @@
 #!/usr/bin/env python3
-"""An independent judge of derivations.
+"""A second judge of derivations.
 
-Written from docs/derivation-format.md alone. It is a second witness next to
+It follows docs/derivation-format.md. It is a second witness next to
 `drg replay`: it shares no code with the product and is no part of it. Where
 the two give different answers for a file, one of them or the page is wrong.
 
