@@ -1,12 +1,13 @@
 -- A claim is known by its name and its indices, and the order of claims is a strict one.
 use Rattle.std.proofs.Common.{◌≡◌, ℕ, zero, suc, ◌≤◌, List, [], ◌∷◌, length, refl, sym, ap, ap₂, subst, ◌∙◌, arith, inl, inr}
-use Rattle.std.specs.Prelude.{◌⊎◌, Contains}
-use Rattle.drg_array.specs.Claims.{name_of, indices_of, index_count}
+use Rattle.std.specs.Prelude.{◌⊎◌, Option, None, Some, IsSome, Contains}
+use Rattle.drg_array.specs.Claims.{claim_of, name_of, indices_of, index_count, HasParts}
 use Rattle.drg_array.specs.ClaimOrder.{claim_number, name_number, test_number, IsBefore}
-use Rattle.drg_array.specs.CatalogueLaws.{OneClaimName, ClaimByName, ClaimsInOrder}
+use Rattle.drg_array.specs.CatalogueLaws.{OneClaimName, ClaimByName, ClaimOfParts, ClaimNamesInOrder, ClaimsInOrder}
 use Rattle.std.proofs.lemmas.Bool.{cases_order}
 use Rattle.drg_array.specs.TestLists.{IsAlwaysRun}
 use Rattle.drg_array.specs.CatalogueLaws.{BuiltAreReplayed}
+use Rattle.drg_array.specs.declared.limits.TheConstants.{MAX_INDICES}
 use Rattle.drg_array.specs.declared.test.Test.{Test}
 use Rattle.drg_array.specs.declared.test.Test.TheVariants as test
 use Rattle.drg_array.specs.declared.claim_name.ClaimName.{ClaimName}
@@ -17,64 +18,80 @@ use Rattle.drg_array.specs.declared.test_set.TheConstants.{BUILT}
 use Rattle.drg_array.specs.declared.claim_name.TheConstants.{REPLAYED}
 use Rattle.drg_array.proofs.TestLaws.{one_name, one_number}
 
-abbrev at : List ℕ → ℕ → ℕ
-at [] k = 0
-at (n ∷ ns) zero = n
-at (n ∷ ns) (suc k) = at ns k
-
--- a claim of this name, with as many of the indices as it has
-remade : ClaimName → List ℕ → Claim
-remade (OfTest test.First) ns = First
-remade (OfTest test.Degree) ns = Degree (at ns 0)
-remade (OfTest test.Order) ns = Order (at ns 0)
-remade (OfTest test.Cross) ns = Cross (at ns 0) (at ns 1)
-remade (OfTest test.Size) ns = Size (at ns 0)
-remade (OfTest test.Intersect) ns = Intersect (at ns 0) (at ns 1) (at ns 2)
-remade (OfTest test.Handshake) ns = Handshake (at ns 0)
-remade (OfTest test.Induced) ns = Induced (at ns 0) (at ns 1)
-remade (OfTest test.Triangles) ns = Triangles (at ns 0)
-remade (OfTest test.Mult) ns = Mult (at ns 0)
-remade (OfTest test.Krein) ns = Krein (at ns 0) (at ns 1) (at ns 2)
-remade (OfTest test.Absolute) ns = Absolute (at ns 0) (at ns 1)
-remade (OfTest test.Triple) ns = Triple (at ns 0) (at ns 1) (at ns 2)
-remade (OfTest test.Ktriple) ns = Ktriple (at ns 0) (at ns 1) (at ns 2)
-
-remade-again : (claim : Claim) → remade (name_of claim) (indices_of claim) ≡ claim
-unfolding remade
-remade-again First = refl
-remade-again (Degree i) = refl
-remade-again (Order i) = refl
-remade-again (Cross i j) = refl
-remade-again (Size i) = refl
-remade-again (Intersect h i j) = refl
-remade-again (Handshake i) = refl
-remade-again (Induced i j) = refl
-remade-again (Triangles i) = refl
-remade-again (Mult i) = refl
-remade-again (Krein i j h) = refl
-remade-again (Absolute i j) = refl
-remade-again (Triple u v w) = refl
-remade-again (Ktriple u v w) = refl
+again : (claim : Claim) → claim_of (name_of claim) (indices_of claim) ≡ Some claim
+again First = refl
+again _ = refl
 
 count : (claim : Claim) → length (indices_of claim) ≡ index_count (name_of claim)
 count First = refl
-count (Degree i) = refl
-count (Order i) = refl
-count (Cross i j) = refl
-count (Size i) = refl
-count (Intersect h i j) = refl
-count (Handshake i) = refl
-count (Induced i j) = refl
-count (Triangles i) = refl
-count (Mult i) = refl
-count (Krein i j h) = refl
-count (Absolute i j) = refl
-count (Triple u v w) = refl
-count (Ktriple u v w) = refl
+count _ = refl
+
+some-same : (claim other : Claim) → Some claim ≡ Some other → claim ≡ other
+some-same claim other e = cc
 
 one : (claim other : Claim) → name_of claim ≡ name_of other → indices_of claim ≡ indices_of other → claim ≡ other
 one claim other e f =
-    sym (remade-again claim) ∙ (ap (λ name. remade name (indices_of claim)) e ∙ (ap (remade (name_of other)) f ∙ remade-again other))
+    some-same claim other (sym (again claim) ∙ (ap (λ name. claim_of name (indices_of claim)) e ∙ (ap (claim_of (name_of other)) f ∙ again other)))
+
+has : (name : ClaimName) (ns : List ℕ) (claim made : Claim) → HasParts name ns made → Some made ≡ Some claim → HasParts name ns claim
+has name ns claim made is e = subst (HasParts name ns) (some-same made claim e) is
+
+parts : (name : ClaimName) (ns : List ℕ) (claim : Claim) → claim_of name ns ≡ Some claim → HasParts name ns claim
+parts (OfTest test.First) [] c e = has _ _ c First (refl, refl) e
+parts (OfTest test.Degree) (i ∷ []) c e = has _ _ c (Degree i) (refl, refl) e
+parts (OfTest test.Order) (i ∷ []) c e = has _ _ c (Order i) (refl, refl) e
+parts (OfTest test.Cross) (i ∷ j ∷ []) c e = has _ _ c (Cross i j) (refl, refl) e
+parts (OfTest test.Size) (i ∷ []) c e = has _ _ c (Size i) (refl, refl) e
+parts (OfTest test.Intersect) (h ∷ i ∷ j ∷ []) c e = has _ _ c (Intersect h i j) (refl, refl) e
+parts (OfTest test.Handshake) (i ∷ []) c e = has _ _ c (Handshake i) (refl, refl) e
+parts (OfTest test.Induced) (i ∷ j ∷ []) c e = has _ _ c (Induced i j) (refl, refl) e
+parts (OfTest test.Triangles) (i ∷ []) c e = has _ _ c (Triangles i) (refl, refl) e
+parts (OfTest test.Mult) (i ∷ []) c e = has _ _ c (Mult i) (refl, refl) e
+parts (OfTest test.Krein) (i ∷ j ∷ h ∷ []) c e = has _ _ c (Krein i j h) (refl, refl) e
+parts (OfTest test.Absolute) (i ∷ j ∷ []) c e = has _ _ c (Absolute i j) (refl, refl) e
+parts (OfTest test.Triple) (u ∷ v ∷ w ∷ []) c e = has _ _ c (Triple u v w) (refl, refl) e
+parts (OfTest test.Ktriple) (u ∷ v ∷ w ∷ []) c e = has _ _ c (Ktriple u v w) (refl, refl) e
+parts _ ns c e = (let none = e in cc)
+
+few : (name : ClaimName) → index_count name ≤ MAX_INDICES
+few (OfTest test.First) = omega arith
+few _ = omega arith
+
+-- where one is made of the name, there are as many indices as it has
+as_many : (name : ClaimName) (ns : List ℕ) (o : Option Claim) → claim_of name ns ≡ o → IsSome o → length ns ≡ index_count name
+as_many name ns None e is = (let h = is in cc)
+as_many name ns (Some claim) e is =
+    let p = parts name ns claim e in
+    ap length (sym p.1) ∙ (count claim ∙ ap index_count p.0)
+
+made : (name : ClaimName) (ns : List ℕ) → length ns ≡ index_count name → IsSome (claim_of name ns)
+made (OfTest test.First) [] e = refl
+made (OfTest test.Degree) (i ∷ []) e = refl
+made (OfTest test.Order) (i ∷ []) e = refl
+made (OfTest test.Cross) (i ∷ j ∷ []) e = refl
+made (OfTest test.Size) (i ∷ []) e = refl
+made (OfTest test.Intersect) (h ∷ i ∷ j ∷ []) e = refl
+made (OfTest test.Handshake) (i ∷ []) e = refl
+made (OfTest test.Induced) (i ∷ j ∷ []) e = refl
+made (OfTest test.Triangles) (i ∷ []) e = refl
+made (OfTest test.Mult) (i ∷ []) e = refl
+made (OfTest test.Krein) (i ∷ j ∷ h ∷ []) e = refl
+made (OfTest test.Absolute) (i ∷ j ∷ []) e = refl
+made (OfTest test.Triple) (u ∷ v ∷ w ∷ []) e = refl
+made (OfTest test.Ktriple) (u ∷ v ∷ w ∷ []) e = refl
+made _ ns e = (let h = e in cc)
+
+pub claim_of_parts : ClaimOfParts
+claim_of_parts = record {
+  again = again;
+  some = λ name ns. (as_many name ns (claim_of name ns) refl, made name ns);
+  parts = parts;
+  few = few;
+}
+
+pub names_in_order : ClaimNamesInOrder
+names_in_order (OfTest test.First) = refl
+names_in_order _ = refl
 
 pub claim_by_name : ClaimByName
 claim_by_name = record { count = count; one = one }

@@ -1,8 +1,9 @@
 -- The names of the tests and of the claims, and what a claim says: its name, its indices, its class and its text.
-use Rattle.std.specs.Prelude.{◌≡◌, ℕ, List, [], ◌∷◌, ◌++◌, Option, Some, codes, decimal}
+use Rattle.std.specs.Prelude.{◌≡◌, ℕ, List, [], ◌∷◌, ◌++◌, map, Option, None, Some, codes, decimal}
 use Rattle.std.specs.List.{flat_map}
 use Rattle.drg_array.specs.declared.test.Test.{Test}
 use Rattle.drg_array.specs.declared.test.Test.TheVariants as test
+use Rattle.drg_array.specs.declared.test.TheConstants.Test.{ALL}
 use Rattle.drg_array.specs.declared.claim.Class.{Class}
 use Rattle.drg_array.specs.declared.claim.Class.TheVariants.{Counting, Spectral}
 use Rattle.drg_array.specs.declared.claim_name.ClaimName.{ClaimName}
@@ -68,6 +69,10 @@ index_count_of_test test.Ktriple = 3
 abbrev pub name_text : ClaimName → List ℕ
 name_text (OfTest t) = test_name t
 
+-- the names of claims, in their order
+abbrev pub claim_names : List ClaimName
+claim_names = map OfTest ALL
+
 -- the test that an array fails which meets a claim of this name, where there is one
 abbrev pub test_named : ClaimName → Option Test
 test_named (OfTest t) = Some t
@@ -120,6 +125,24 @@ indices_of (Ktriple u v w) = u ∷ v ∷ w ∷ []
 -- the claim has this name and these indices
 abbrev pub HasParts : ClaimName → List ℕ → Claim → Type 0
 HasParts name indices claim = (name_of claim ≡ name) × (indices_of claim ≡ indices)
+
+-- the claim of this name with these indices, where they are as many as it has
+abbrev pub claim_of : ClaimName → List ℕ → Option Claim
+claim_of (OfTest test.First) [] = Some First
+claim_of (OfTest test.Degree) (i ∷ []) = Some (Degree i)
+claim_of (OfTest test.Order) (i ∷ []) = Some (Order i)
+claim_of (OfTest test.Cross) (i ∷ j ∷ []) = Some (Cross i j)
+claim_of (OfTest test.Size) (i ∷ []) = Some (Size i)
+claim_of (OfTest test.Intersect) (h ∷ i ∷ j ∷ []) = Some (Intersect h i j)
+claim_of (OfTest test.Handshake) (i ∷ []) = Some (Handshake i)
+claim_of (OfTest test.Induced) (i ∷ j ∷ []) = Some (Induced i j)
+claim_of (OfTest test.Triangles) (i ∷ []) = Some (Triangles i)
+claim_of (OfTest test.Mult) (i ∷ []) = Some (Mult i)
+claim_of (OfTest test.Krein) (i ∷ j ∷ h ∷ []) = Some (Krein i j h)
+claim_of (OfTest test.Absolute) (i ∷ j ∷ []) = Some (Absolute i j)
+claim_of (OfTest test.Triple) (u ∷ v ∷ w ∷ []) = Some (Triple u v w)
+claim_of (OfTest test.Ktriple) (u ∷ v ∷ w ∷ []) = Some (Ktriple u v w)
+claim_of _ indices = None
 
 abbrev pub class_of : Claim → Class
 class_of claim = class_of_name (name_of claim)

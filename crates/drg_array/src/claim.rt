@@ -1,12 +1,14 @@
 //! What an array fails, and how it is written.
 
-ghost use Rattle.std.specs.Prelude.{◌≡◌, ◌↔◌, [], ◌∷◌, ◌++◌, length, Some, IsSome, IfSome, OnOk, OnErr};
+ghost use Rattle.std.specs.Prelude.{◌≡◌, ◌≤◌, ◌↔◌, [], ◌∷◌, ◌++◌, length, Some, OnOk, OnErr};
+ghost use Rattle.std.specs.List.{AllByRecursion};
 ghost use Rattle.drg_algebra.specs.Beginnings.{BeginsWith};
 ghost use Rattle.drg_array.specs.ClaimOrder.{IsClaimOf};
-ghost use Rattle.drg_array.specs.Claims.{class_name, class_of, claim_text, HasParts, index_count, indices_of, name_of, spaced};
+ghost use Rattle.drg_array.specs.Claims.{class_name, class_of, claim_of, claim_text, indices_of, name_of, spaced};
 ghost use Rattle.drg_array.specs.declared.test.Test.{Test as TheTest};
 
-use crate::{ClaimName, Test};
+use crate::{ClaimName, MAX_INDICES, Test};
+use arrayvec::ArrayVec;
 use itoa::Buffer;
 use std::alloc::AllocError;
 
@@ -51,8 +53,7 @@ pub enum Claim {
 impl Claim {
     /// The claim of this name with these indices, where they are as many as it has.
     pub fn of(name: ClaimName, indices: &[u8]) -> Option<Claim>
-        ensures some { IsSome result ↔ (length indices.now ≡ index_count name) }
-        ensures claim { IfSome result (HasParts name indices.now) }
+        ensures { result ≡ claim_of name indices.now }
     {
         match *indices {
             [] => claim_of_none(name),
@@ -85,6 +86,28 @@ impl Claim {
         }
     }
 
+    /// The indices, in the order in which they are written. Takes no memory.
+    pub fn indices(&self) -> ArrayVec<u8, MAX_INDICES>
+        ensures indices { result.items ≡ indices_of self.now }
+        ensures bytes { AllByRecursion (λ n. n ≤ 255) (indices_of self.now) }
+    {
+        match self {
+            Claim::First => few(&[]),
+            Claim::Degree { i }
+            | Claim::Order { i }
+            | Claim::Size { i }
+            | Claim::Handshake { i }
+            | Claim::Triangles { i }
+            | Claim::Mult { i } => few(&[*i]),
+            Claim::Cross { i, j } | Claim::Induced { i, j } | Claim::Absolute { i, j } => {
+                few(&[*i, *j])
+            }
+            Claim::Intersect { h, i, j } => few(&[*h, *i, *j]),
+            Claim::Krein { i, j, h } => few(&[*i, *j, *h]),
+            Claim::Triple { u, v, w } | Claim::Ktriple { u, v, w } => few(&[*u, *v, *w]),
+        }
+    }
+
     /// The test that an array fails which meets the claim. There can be none.
     pub fn test(&self) -> Option<Test>
         ensures { (t : TheTest) → (result ≡ Some t) ↔ IsClaimOf t self.now }
@@ -105,39 +128,13 @@ impl Claim {
         ensures err { OnErr result (BeginsWith (claim_text self.now) out.old.items out.new.items) }
     {
         out.extend_from_slice(self.name().text().as_bytes())?;
-        self.write_indices(out)
-    }
-
-    /// Appends the indices, with one space before each.
-    fn write_indices(&self, out: &mut Vec<u8>) -> Result<(), AllocError>
-        ensures ok { OnOk result (out.new.items ≡ out.old.items ++ spaced (indices_of self.now)) }
-        ensures err { OnErr result
-            (BeginsWith (spaced (indices_of self.now)) out.old.items out.new.items) }
-    {
-        match self {
-            Claim::First => Ok(()),
-            Claim::Degree { i }
-            | Claim::Order { i }
-            | Claim::Size { i }
-            | Claim::Handshake { i }
-            | Claim::Triangles { i }
-            | Claim::Mult { i } => write_spaced(&[*i], out),
-            Claim::Cross { i, j } | Claim::Induced { i, j } | Claim::Absolute { i, j } => {
-                write_spaced(&[*i, *j], out)
-            }
-            Claim::Intersect { h, i, j } => write_spaced(&[*h, *i, *j], out),
-            Claim::Krein { i, j, h } => write_spaced(&[*i, *j, *h], out),
-            Claim::Triple { u, v, w } | Claim::Ktriple { u, v, w } => {
-                write_spaced(&[*u, *v, *w], out)
-            }
-        }
+        write_spaced(&self.indices(), out)
     }
 }
 
 /// The claim of this name without indices.
 fn claim_of_none(name: ClaimName) -> Option<Claim>
-    ensures some { IsSome result ↔ (index_count name ≡ 0) }
-    ensures claim { IfSome result (HasParts name []) }
+    ensures { result ≡ claim_of name [] }
 {
     match name {
         ClaimName::OfTest(Test::First) => Some(Claim::First),
@@ -147,8 +144,7 @@ fn claim_of_none(name: ClaimName) -> Option<Claim>
 
 /// The claim of this name with one index.
 fn claim_of_one(name: ClaimName, i: u8) -> Option<Claim>
-    ensures some { IsSome result ↔ (index_count name ≡ 1) }
-    ensures claim { IfSome result (HasParts name (i ∷ [])) }
+    ensures { result ≡ claim_of name (i ∷ []) }
 {
     match name {
         ClaimName::OfTest(Test::Degree) => Some(Claim::Degree { i }),
@@ -163,8 +159,7 @@ fn claim_of_one(name: ClaimName, i: u8) -> Option<Claim>
 
 /// The claim of this name with two indices.
 fn claim_of_two(name: ClaimName, i: u8, j: u8) -> Option<Claim>
-    ensures some { IsSome result ↔ (index_count name ≡ 2) }
-    ensures claim { IfSome result (HasParts name (i ∷ j ∷ [])) }
+    ensures { result ≡ claim_of name (i ∷ j ∷ []) }
 {
     match name {
         ClaimName::OfTest(Test::Cross) => Some(Claim::Cross { i, j }),
@@ -176,8 +171,7 @@ fn claim_of_two(name: ClaimName, i: u8, j: u8) -> Option<Claim>
 
 /// The claim of this name with three indices, in the order in which they are written.
 fn claim_of_three(name: ClaimName, first: u8, second: u8, third: u8) -> Option<Claim>
-    ensures some { IsSome result ↔ (index_count name ≡ 3) }
-    ensures claim { IfSome result (HasParts name (first ∷ second ∷ third ∷ [])) }
+    ensures { result ≡ claim_of name (first ∷ second ∷ third ∷ []) }
 {
     match name {
         ClaimName::OfTest(Test::Intersect) => Some(Claim::Intersect {
@@ -202,6 +196,18 @@ fn claim_of_three(name: ClaimName, first: u8, second: u8, third: u8) -> Option<C
         }),
         _ => None,
     }
+}
+
+/// At most three indices.
+fn few(indices: &[u8]) -> ArrayVec<u8, MAX_INDICES>
+    requires { length indices.now ≤ 3 }
+    ensures { result.items ≡ indices.now }
+{
+    let mut all = ArrayVec::new();
+    'indices: for index in indices {
+        all.push(*index);
+    }
+    all
 }
 
 /// Appends the numbers, with one space before each.

@@ -23,7 +23,7 @@ pub use claim::{Claim, Class};
 pub use claim_name::{ClaimName, REPLAYED};
 pub use fault::{ArrayFault, ArrayKind};
 pub use laws::{claim_law, limit_law, test_law, test_list_law, text_law};
-pub use limits::{MAX_DIAMETER, MAX_ENTRY};
+pub use limits::{MAX_DIAMETER, MAX_ENTRY, MAX_INDICES};
 pub use node::Node;
 pub use numbers::{condition_law, example_law, number_law};
 pub use test::Test;
