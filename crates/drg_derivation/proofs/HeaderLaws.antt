@@ -7,14 +7,12 @@ use Rattle.std.proofs.lemmas.Bool.Decides.{Decides-and, Decides-like, Decides-eq
 use Rattle.std.proofs.lemmas.List.{take-append-drop}
 use Rattle.std.proofs.Math.Seq.{take-append_seam, drop-append_seam}
 use Rattle.drg_array.specs.Entries.{Entries, IsArray, IsEntry, diameter}
-use Rattle.drg_array.specs.Claims.{name_of, indices_of, index_count, HasParts}
-use Rattle.drg_array.specs.declared.limits.TheConstants.{MAX_DIAMETER, MAX_ENTRY}
+use Rattle.drg_array.specs.Claims.{name_of, indices_of}
+use Rattle.drg_array.specs.declared.limits.TheConstants.{MAX_DIAMETER, MAX_ENTRY, MAX_INDICES}
 use Rattle.drg_array.specs.declared.claim_name.ClaimName.{ClaimName}
-use Rattle.drg_array.specs.declared.claim_name.ClaimName.TheVariants.{OfTest}
-use Rattle.drg_array.specs.declared.test.Test.TheVariants as test
 use Rattle.drg_array.specs.declared.claim.Claim.{Claim}
-use Rattle.drg_array.specs.declared.claim.Claim.TheVariants as claim
-use Rattle.drg_derivation.specs.Header.{natural, naturals, naturals_after, version_named, version_with, version_read, are_entries, array_made, array_from, array_with, array_read, claim_made, claim_with, claim_read}
+use Rattle.drg_array.proofs.ClaimLaws.{claim_by_name, claim_of_parts}
+use Rattle.drg_derivation.specs.Header.{natural, naturals, naturals_after, version_named, version_with, version_read, are_entries, array_made, array_from, array_with, array_read, claim_with, claim_read}
 use Rattle.drg_derivation.specs.Reading.{◌>>=◌}
 use Rattle.drg_derivation.specs.Shapes.{first_of}
 use Rattle.drg_derivation.specs.Words.{Written, written, takes_name, array_numbers, IsClaim}
@@ -224,56 +222,14 @@ array_read-again a array =
     rw ((le-Decides (length (array_numbers a)) (2 * MAX_DIAMETER + 1)).1 len, naturals-again 65535 (diameter a ∷ (a.b ++ a.c)) below) (array_from-again a array)
 
 -- ---- the claim
-claim_made-again : (c : Claim) → claim_made (name_of c) (indices_of c) ≡ Some c
-claim_made-again claim.First = refl
-claim_made-again _ = refl
-
-parts : (name : ClaimName) (ns : List ℕ) (x c : Claim) → HasParts name ns x → Some x ≡ Some c → HasParts name ns c
-parts name ns x c is e = subst (HasParts name ns) (same_some x c e) is
-
-claim_made-is : (name : ClaimName) (ns : List ℕ) (c : Claim) → claim_made name ns ≡ Some c → HasParts name ns c
-claim_made-is (OfTest test.First) [] c e = parts _ _ claim.First c (refl, refl) e
-claim_made-is (OfTest test.Degree) (i ∷ []) c e = parts _ _ (claim.Degree i) c (refl, refl) e
-claim_made-is (OfTest test.Order) (i ∷ []) c e = parts _ _ (claim.Order i) c (refl, refl) e
-claim_made-is (OfTest test.Cross) (i ∷ j ∷ []) c e = parts _ _ (claim.Cross i j) c (refl, refl) e
-claim_made-is (OfTest test.Size) (i ∷ []) c e = parts _ _ (claim.Size i) c (refl, refl) e
-claim_made-is (OfTest test.Intersect) (h ∷ i ∷ j ∷ []) c e = parts _ _ (claim.Intersect h i j) c (refl, refl) e
-claim_made-is (OfTest test.Handshake) (i ∷ []) c e = parts _ _ (claim.Handshake i) c (refl, refl) e
-claim_made-is (OfTest test.Induced) (i ∷ j ∷ []) c e = parts _ _ (claim.Induced i j) c (refl, refl) e
-claim_made-is (OfTest test.Triangles) (i ∷ []) c e = parts _ _ (claim.Triangles i) c (refl, refl) e
-claim_made-is (OfTest test.Mult) (i ∷ []) c e = parts _ _ (claim.Mult i) c (refl, refl) e
-claim_made-is (OfTest test.Krein) (i ∷ j ∷ h ∷ []) c e = parts _ _ (claim.Krein i j h) c (refl, refl) e
-claim_made-is (OfTest test.Absolute) (i ∷ j ∷ []) c e = parts _ _ (claim.Absolute i j) c (refl, refl) e
-claim_made-is (OfTest test.Triple) (u ∷ v ∷ w ∷ []) c e = parts _ _ (claim.Triple u v w) c (refl, refl) e
-claim_made-is (OfTest test.Ktriple) (u ∷ v ∷ w ∷ []) c e = parts _ _ (claim.Ktriple u v w) c (refl, refl) e
-claim_made-is _ ns c e = (let none = e in cc)
-
-count-is : (c : Claim) → length (indices_of c) ≡ index_count (name_of c)
-count-is claim.First = refl
-count-is _ = refl
-
--- what makes a claim exactly where there are as many indices as its name has makes that of the definition
-pub claim_made-by : (o : Option Claim) (name : ClaimName) (ns : List ℕ) → (length ns ≡ index_count name → IsSome o) → IfSome o (HasParts name ns) → o ≡ claim_made name ns
-claim_made-by (Some c) name ns some is =
-    sym (claim_made-again c) ∙ (ap (λ (n : ClaimName). claim_made n (indices_of c)) is.0 ∙ ap (claim_made name) is.1)
-claim_made-by None name ns some is = of (claim_made name ns) refl
-  where
-    of : (o : Option Claim) → claim_made name ns ≡ o → None ≡ claim_made name ns
-    of None e = sym e
-    of (Some c) e =
-        let p = claim_made-is name ns c e in
-        let count : length ns ≡ index_count name = ap length (sym p.1) ∙ (count-is c ∙ ap index_count p.0) in
-        let found = some count in
-        absurd (let f = found in cc)
-
 claim-with : (word : Word) (name : Option ClaimName) (numbers : List ℤ) (c : Claim) → claim_with word name numbers ≡ Some c
     → IsClaim c × (written (ClaimView c) ≡ record { word = word; name = name; numbers = numbers })
 claim-with word.Claim name numbers c e =
     let t = bound name _ _ e in
-    elim (chosen (nat_le (length numbers) 3) _ _ _ t.2) [
+    elim (chosen (nat_le (length numbers) MAX_INDICES) _ _ _ t.2) [
       | inl good ↦ (let ns = bound (naturals 255 numbers) _ _ good.1 in
           let are = naturals-are 255 numbers ns.0 ns.1 in
-          let is = claim_made-is t.0 ns.0 c ns.2 in
+          let is = claim_of_parts.parts t.0 ns.0 c ns.2 in
           let all : map pos (indices_of c) ≡ numbers = ap (map pos) is.1 ∙ are.0 in
           let known : Some (name_of c) ≡ name = ap (λ (x : ClaimName). Some x) is.0 ∙ sym t.1 in
           (subst (AreBelow 255) (sym is.1) are.1, written-eq word.Claim (Some (name_of c)) name (map pos (indices_of c)) numbers known all))
@@ -285,12 +241,11 @@ pub claim_read-takes : (w : Written) (c : Claim) → claim_read w ≡ Some c →
 unfolding claim_read
 claim_read-takes w c e = claim-with w.word w.name w.numbers c e
 
-few-indices : (c : Claim) → length (indices_of c) ≤ 3
-few-indices claim.First = omega arith
-few-indices _ = omega arith
+few-indices : (c : Claim) → length (indices_of c) ≤ MAX_INDICES
+few-indices c = let few = claim_of_parts.few (name_of c) in let count = claim_by_name.count c in omega (arith, few, count)
 
 pub claim_read-again : (c : Claim) → IsClaim c → claim_read (written (ClaimView c)) ≡ Some c
 unfolding claim_read
 claim_read-again c h =
-    let len : length (map pos (indices_of c)) ≤ 3 = omega (arith, length-map (indices_of c), few-indices c) in
-    rw ((le-Decides (length (map pos (indices_of c))) 3).1 len, naturals-again 255 (indices_of c) h) (claim_made-again c)
+    let len : length (map pos (indices_of c)) ≤ MAX_INDICES = omega (arith, length-map (indices_of c), few-indices c) in
+    rw ((le-Decides (length (map pos (indices_of c))) MAX_INDICES).1 len, naturals-again 255 (indices_of c) h) (claim_of_parts.again c)

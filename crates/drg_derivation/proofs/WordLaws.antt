@@ -2,13 +2,13 @@
 use Rattle.std.proofs.Common.{◌≡◌, ℕ, zero, suc, ◌+◌, ◌<◌, inl, inr, Bool, true, false, List, [], ◌∷◌, ◌++◌, length, drop, get_or, None, Some, refl, sym, ap, subst, ◌∙◌, arith}
 use Rattle.std.specs.Prelude.{Option, is_some, IfSome, IfNone, bytes_eq, cond, ◌==◌}
 use Rattle.std.proofs.lemmas.Slice.Eq.{bytes_eq-Decides}
-use Rattle.drg_array.specs.Claims.{name_text}
+use Rattle.drg_array.specs.Claims.{name_text, claim_names}
 use Rattle.drg_array.specs.declared.claim_name.ClaimName.{ClaimName}
 use Rattle.drg_array.specs.declared.claim_name.ClaimName.TheVariants.{OfTest}
 use Rattle.drg_array.specs.declared.test.Test.TheVariants as test
 use Rattle.drg_derivation.specs.Reading.{after_byte}
 use Rattle.drg_derivation.specs.Words.{word_text, second_text, takes_name}
-use Rattle.drg_derivation.specs.WordReading.{named, word_part, rest_part, names, name_named, second_at, kind_word, kind_named, other_word, word_of, word_named, word_at, name_at}
+use Rattle.drg_derivation.specs.WordReading.{named, word_part, rest_part, name_named, second_at, kind_word, kind_named, other_word, word_of, word_named, word_at, name_at}
 use Rattle.drg_derivation.specs.declared.kind.Kind.{Kind}
 use Rattle.drg_derivation.specs.declared.kind.Kind.TheVariants as kind
 use Rattle.drg_derivation.specs.declared.kind.TheConstants.{KINDS}
@@ -72,7 +72,7 @@ unfolding second_at name_named
 second_at-takes w text name rest takes e =
     let after = bound (after_byte 32 text) _ _ e in
     let t = bound (name_named (word_part after.0)) _ _ after.2 in
-    let is = named-is name_text names (word_part after.0) t.0 t.1 in
+    let is = named-is name_text claim_names (word_part after.0) t.0 t.1 in
     let whole : text ≡ 32 ∷ (name_text t.0 ++ rest_part after.0) = after_byte-is 32 text after.0 after.1 ∙ ap (λ l. 32 ∷ l) (parts after.0 ∙ ap (λ l. l ++ rest_part after.0) is) in
     subst (λ (x : Option ClaimName × List ℕ). TakesName w text x.0 x.1) (same_some _ _ t.2) (record { whole = whole; named = takes })
 
@@ -130,4 +130,4 @@ name_named-by None text is none = of (name_named text) refl
   where
     of : (o : Option ClaimName) → name_named text ≡ o → None ≡ name_named text
     of None e = sym e
-    of (Some name) e = absurd (none name (sym (named-is name_text names text name e)))
+    of (Some name) e = absurd (none name (sym (named-is name_text claim_names text name e)))

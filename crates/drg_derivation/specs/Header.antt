@@ -1,12 +1,10 @@
 -- Reading the version, the array and the claim of a derivation.
 use Rattle.std.specs.Prelude.{◌+◌, ◌*◌, length, ℕ, nat_le, Bool, true, ◌&&◌, ◌==◌, if◌then◌else◌, ℤ, pos, negsuc, List, [], ◌∷◌, ◌++◌, take, drop, Option, None, Some}
+use Rattle.drg_array.specs.Claims.{claim_of}
 use Rattle.drg_array.specs.Entries.{Entries}
 use Rattle.drg_array.specs.declared.claim_name.ClaimName.{ClaimName}
-use Rattle.drg_array.specs.declared.claim_name.ClaimName.TheVariants.{OfTest}
-use Rattle.drg_array.specs.declared.test.Test.TheVariants as test
 use Rattle.drg_array.specs.declared.claim.Claim.{Claim}
-use Rattle.drg_array.specs.declared.claim.Claim.TheVariants.{First, Degree, Order, Cross, Size, Intersect, Handshake, Induced, Triangles, Mult, Krein, Absolute, Triple, Ktriple}
-use Rattle.drg_array.specs.declared.limits.TheConstants.{MAX_DIAMETER, MAX_ENTRY}
+use Rattle.drg_array.specs.declared.limits.TheConstants.{MAX_DIAMETER, MAX_ENTRY, MAX_INDICES}
 use Rattle.drg_derivation.specs.Shapes.{first_of}
 use Rattle.drg_derivation.specs.Words.{Written}
 use Rattle.drg_derivation.specs.Reading.{◌>>=◌}
@@ -63,27 +61,9 @@ unfoldable pub array_read : Written → Option Entries
 array_read line = array_with line.word line.numbers
 
 -- ---- the claim
--- the claim of this name with these indices
-abbrev pub claim_made : ClaimName → List ℕ → Option Claim
-claim_made (OfTest test.First) [] = Some First
-claim_made (OfTest test.Degree) (i ∷ []) = Some (Degree i)
-claim_made (OfTest test.Order) (i ∷ []) = Some (Order i)
-claim_made (OfTest test.Cross) (i ∷ j ∷ []) = Some (Cross i j)
-claim_made (OfTest test.Size) (i ∷ []) = Some (Size i)
-claim_made (OfTest test.Intersect) (h ∷ i ∷ j ∷ []) = Some (Intersect h i j)
-claim_made (OfTest test.Handshake) (i ∷ []) = Some (Handshake i)
-claim_made (OfTest test.Induced) (i ∷ j ∷ []) = Some (Induced i j)
-claim_made (OfTest test.Triangles) (i ∷ []) = Some (Triangles i)
-claim_made (OfTest test.Mult) (i ∷ []) = Some (Mult i)
-claim_made (OfTest test.Krein) (i ∷ j ∷ h ∷ []) = Some (Krein i j h)
-claim_made (OfTest test.Absolute) (i ∷ j ∷ []) = Some (Absolute i j)
-claim_made (OfTest test.Triple) (u ∷ v ∷ w ∷ []) = Some (Triple u v w)
-claim_made (OfTest test.Ktriple) (u ∷ v ∷ w ∷ []) = Some (Ktriple u v w)
-claim_made _ indices = None
-
 abbrev pub claim_with : Word → Option ClaimName → List ℤ → Option Claim
 claim_with word.Claim name numbers =
-    name >>= λ known. if nat_le (length numbers) 3 then naturals 255 numbers >>= claim_made known else None
+    name >>= λ known. if nat_le (length numbers) MAX_INDICES then naturals 255 numbers >>= claim_of known else None
 claim_with _ name numbers = None
 
 unfoldable pub claim_read : Written → Option Claim

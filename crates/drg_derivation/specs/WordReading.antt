@@ -1,9 +1,7 @@
 -- Reading the words and the numbers of a line from left to right.
-use Rattle.std.specs.Prelude.{ℕ, ◌==◌, if◌then◌else◌, List, [], ◌∷◌, map, Option, None, Some, bytes_eq}
-use Rattle.drg_array.specs.Claims.{name_text}
+use Rattle.std.specs.Prelude.{ℕ, ◌==◌, if◌then◌else◌, List, [], ◌∷◌, Option, None, Some, bytes_eq}
+use Rattle.drg_array.specs.Claims.{name_text, claim_names}
 use Rattle.drg_array.specs.declared.claim_name.ClaimName.{ClaimName}
-use Rattle.drg_array.specs.declared.claim_name.ClaimName.TheVariants.{OfTest}
-use Rattle.drg_array.specs.declared.test.TheConstants.Test.{ALL}
 use Rattle.drg_derivation.specs.Reading.{◌>>=◌, after_byte, integers_of}
 use Rattle.drg_derivation.specs.Shapes.{form_of}
 use Rattle.drg_derivation.specs.Words.{Written, word_text, takes_name}
@@ -27,12 +25,8 @@ abbrev pub named : {A : Type 0} → (A → List ℕ) → List A → List ℕ →
 named name [] text = None
 named name (x ∷ xs) text = if bytes_eq text (name x) then Some x else named name xs text
 
--- the names of claims
-abbrev pub names : List ClaimName
-names = map OfTest ALL
-
 unfoldable pub name_named : List ℕ → Option ClaimName
-name_named text = named name_text names text
+name_named text = named name_text claim_names text
 
 abbrev pub kind_word : Kind → List ℕ
 kind_word kind = (form_of kind).word

@@ -5,7 +5,6 @@ ghost use Rattle.drg_derivation.specs.Lines.{AreFit};
 ghost use Rattle.drg_derivation.specs.Text.{HasText};
 ghost use Rattle.drg_derivation.specs.Words.{IsClaim};
 
-use crate::header::claim_indices;
 use crate::{Context, Line};
 use drg_array::{Array, Claim};
 use std::marker::Model;
@@ -75,5 +74,5 @@ fn lines_fit(context: Context, lines: &[Line]) -> bool
 fn show_indices_are_bytes(claim: &Claim)
     ensures { IsClaim claim.now }
 {
-    let _indices = claim_indices(claim);
+    let _indices = claim.indices();
 }

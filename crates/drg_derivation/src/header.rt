@@ -2,14 +2,12 @@
 
 ghost use Rattle.std.specs.Prelude.{◌≡◌, ◌≤◌, length};
 ghost use Rattle.std.specs.Option.{option_map};
-ghost use Rattle.drg_array.specs.Claims.{indices_of};
-ghost use Rattle.drg_derivation.specs.Header.{array_from, array_read, claim_made, claim_read, natural as natural_of, naturals as naturals_of, version_named as version_named_of, version_read};
-ghost use Rattle.drg_derivation.specs.Words.{IsClaim};
+ghost use Rattle.drg_derivation.specs.Header.{array_from, array_read, claim_read, natural as natural_of, naturals as naturals_of, version_named as version_named_of, version_read};
 
 use crate::word::Word;
 use crate::written::WrittenLine;
 use arrayvec::ArrayVec;
-use drg_array::{Array, Claim, ClaimName, MAX_DIAMETER};
+use drg_array::{Array, Claim, MAX_DIAMETER, MAX_INDICES};
 use num_traits::cast;
 
 /// The latest version of the text.
@@ -17,9 +15,6 @@ const LATEST_VERSION: u8 = 1;
 
 /// The most numbers of an array's line.
 pub const MAX_NUMBERS: usize = 2 * MAX_DIAMETER + 1;
-
-/// The most indices of a claim.
-const MAX_INDICES: usize = 3;
 
 /// The version of the text in this line.
 #[tactic(auto, unfolding(crate::specs::Header::version_read))]
@@ -86,7 +81,7 @@ pub fn claim_of(line: &WrittenLine) -> Option<Claim>
     if line.count() > MAX_INDICES {
         return None;
     }
-    claim_with(name, &bytes(line)?)
+    Claim::of(name, &bytes(line)?)
 }
 
 /// The numbers of the line, where each is at least 0 and below 2^16.
@@ -125,45 +120,4 @@ fn byte(number: i128) -> Option<u8>
     ensures { result ≡ natural_of 255 number }
 {
     cast(number)
-}
-
-/// The claim of this name with these indices.
-fn claim_with(name: ClaimName, indices: &[u8]) -> Option<Claim>
-    ensures { result ≡ claim_made name indices.now }
-{
-    Claim::of(name, indices)
-}
-
-/// The indices of a claim, in the order in which they are written.
-pub fn claim_indices(claim: &Claim) -> ArrayVec<u8, MAX_INDICES>
-    ensures indices { result.items ≡ indices_of claim.now }
-    ensures bytes { IsClaim claim.now }
-{
-    match claim {
-        Claim::First => few(&[]),
-        Claim::Degree { i }
-        | Claim::Order { i }
-        | Claim::Size { i }
-        | Claim::Handshake { i }
-        | Claim::Triangles { i }
-        | Claim::Mult { i } => few(&[*i]),
-        Claim::Cross { i, j } | Claim::Induced { i, j } | Claim::Absolute { i, j } => {
-            few(&[*i, *j])
-        }
-        Claim::Intersect { h, i, j } => few(&[*h, *i, *j]),
-        Claim::Krein { i, j, h } => few(&[*i, *j, *h]),
-        Claim::Triple { u, v, w } | Claim::Ktriple { u, v, w } => few(&[*u, *v, *w]),
-    }
-}
-
-/// At most three indices.
-fn few(indices: &[u8]) -> ArrayVec<u8, MAX_INDICES>
-    requires { length indices.now ≤ 3 }
-    ensures { result.items ≡ indices.now }
-{
-    let mut all = ArrayVec::new();
-    'indices: for index in indices {
-        all.push(*index);
-    }
-    all
 }

@@ -4,7 +4,6 @@ ghost use Rattle.std.specs.Prelude.{◌≡◌, ◌<◌, pos, length, slice_index
 ghost use Rattle.drg_derivation.specs.Words.{array_numbers, claim_words as claim_words_of, words_text, written};
 
 use crate::EvidenceView;
-use crate::header::claim_indices;
 use drg_array::{Array, Claim, ClaimName, Test};
 
 /// A line of a derivation over lent bytes, by what it says.
@@ -43,7 +42,7 @@ impl LineView<'_> {
         match self {
             LineView::Version { .. } => 1,
             LineView::Array { array } => 1 + 2 * array.d(),
-            LineView::Claim { claim } => claim_indices(claim).len(),
+            LineView::Claim { claim } => claim.indices().len(),
             LineView::Evidence { line } => line.count(),
             LineView::End => 0,
         }
@@ -57,7 +56,7 @@ impl LineView<'_> {
         match self {
             LineView::Version { version } => i128::from(*version),
             LineView::Array { array } => i128::from(array_number(array, i)),
-            LineView::Claim { claim } => i128::from(claim_indices(claim)[i]),
+            LineView::Claim { claim } => i128::from(claim.indices()[i]),
             LineView::Evidence { line } => line.number(i),
             LineView::End => 0,
         }
