@@ -154,6 +154,11 @@ fn writes_claims(rt: HostRuntime) -> Result<(), Fail> {
         claim.write_text(&mut out)?;
         assert_eq!(rt; out.as_slice(), text.as_bytes());
         assert_eq!(rt; claim.class(), class);
+        assert_eq!(rt;
+            Claim::of(claim.name(), &claim.indices()),
+            Some(claim),
+            "{text}"
+        );
         assert!(rt; claim.test().is_some(), "{text}");
     }
     Ok(())
@@ -161,7 +166,7 @@ fn writes_claims(rt: HostRuntime) -> Result<(), Fail> {
 
 #[test]
 fn reads_claims(rt: HostRuntime) -> Result<(), Fail> {
-    let cases: [(&[u8], &[u8], Option<Claim>); 10] = [
+    let cases: [(&[u8], &[u8], Option<Claim>); 11] = [
         (b"first", &[], Some(Claim::First)),
         (b"size", &[12], Some(Claim::Size { i: 12 })),
         (b"cross", &[1, 2], Some(Claim::Cross { i: 1, j: 2 })),
@@ -175,6 +180,7 @@ fn reads_claims(rt: HostRuntime) -> Result<(), Fail> {
             &[1, 2, 3],
             Some(Claim::Krein { i: 1, j: 2, h: 3 }),
         ),
+        (b"triple", &[1, 2], None),
         (b"first", &[1], None),
         (b"size", &[], None),
         (b"krein", &[1, 2, 3, 4], None),
