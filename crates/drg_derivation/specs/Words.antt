@@ -38,9 +38,6 @@ second_text (Some name) = 32 ∷ name_text name
 abbrev pub words_text : Written → List ℕ
 words_text line = word_text line.word ++ second_text line.name
 
-abbrev pub claim_words : ClaimName → List ℕ
-claim_words name = codes "claim" ++ 32 ∷ name_text name
-
 -- the text, without its line end, is the words and the numbers
 pub record IsWrittenText (text : List ℕ) (line : Written) : Type 0 where
   pub numbers : List ℕ

@@ -2,7 +2,7 @@ use crate::{
     Context, Derivation, DerivationFault, Kind, Line, LineReader, LineView, NumberList, Place,
     line_at, read,
 };
-use drg_array::{Array, Claim};
+use drg_array::{Array, Claim, ClaimName, Test};
 use std::alloc::Global;
 use std::process::Abort;
 use std::test::Fail;
@@ -304,12 +304,20 @@ fn a_line_of_forty_thousand_numbers(rt: HostRuntime) -> Result<(), Fail> {
     Ok(())
 }
 
+/// The name that follows this word in the derivation of mult.
+fn name_after(word: &str) -> Option<ClaimName> {
+    match word {
+        "claim" => Some(ClaimName::OfTest(Test::Mult)),
+        _ => None,
+    }
+}
+
 #[test]
 fn words_and_numbers_of_lines(rt: HostRuntime) {
     let cases: [(&str, &[i128]); 15] = [
         ("drg", &[1]),
         ("array", &[2, 4, 3, 1, 1]),
-        ("claim mult", &[1]),
+        ("claim", &[1]),
         ("k", &[1, 4, 12]),
         ("frame", &[13]),
         ("theta", &[0, 4, 1, 0, 1]),
@@ -328,6 +336,7 @@ fn words_and_numbers_of_lines(rt: HostRuntime) {
         match reader.next() {
             Ok(Some(line)) => {
                 assert_eq!(rt; line.word(), word);
+                assert_eq!(rt; line.name(), name_after(word));
                 assert_eq!(rt; line.count(), numbers.len());
                 for i in 0..line.count() {
                     assert_eq!(rt; Some(line.number(i)), numbers.get(i).copied());

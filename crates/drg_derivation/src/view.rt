@@ -1,10 +1,10 @@
 //! A line of a derivation as it lies in the bytes.
 
 ghost use Rattle.std.specs.Prelude.{◌≡◌, ◌<◌, pos, length, slice_index_or};
-ghost use Rattle.drg_derivation.specs.Words.{array_numbers, claim_words as claim_words_of, words_text, written};
+ghost use Rattle.drg_derivation.specs.Words.{array_numbers, word_text, written};
 
 use crate::EvidenceView;
-use drg_array::{Array, Claim, ClaimName, Test};
+use drg_array::{Array, Claim, ClaimName};
 
 /// A line of a derivation over lent bytes, by what it says.
 #[derive(Debug, Drop)]
@@ -22,20 +22,30 @@ pub enum LineView<'a> {
 }
 
 impl LineView<'_> {
-    /// The word as it is written, for a claim its two words with one space between.
+    /// The word with which the line begins.
     pub fn word(&self) -> &'static str
-        ensures { result.now ≡ words_text (written self.now) }
+        ensures { result.now ≡ word_text (written self.now).word }
     {
         match self {
             LineView::Version { .. } => "drg",
             LineView::Array { .. } => "array",
-            LineView::Claim { claim } => claim_words(claim.name()),
+            LineView::Claim { .. } => "claim",
             LineView::Evidence { line } => line.kind().name(),
             LineView::End => "end",
         }
     }
 
-    /// How many numbers follow the word.
+    /// The name of the claim, which follows as a second word where the line is that of a claim.
+    pub fn name(&self) -> Option<ClaimName>
+        ensures { result ≡ (written self.now).name }
+    {
+        match self {
+            LineView::Claim { claim } => Some(claim.name()),
+            _ => None,
+        }
+    }
+
+    /// How many numbers follow the words.
     pub fn count(&self) -> usize
         ensures { result ≡ length (written self.now).numbers }
     {
@@ -75,27 +85,5 @@ pub(crate) fn array_number(array: &Array, i: usize) -> u16
         array.b(i - 1)
     } else {
         array.c(i - d)
-    }
-}
-
-/// `claim`, a space and the name.
-fn claim_words(name: ClaimName) -> &'static str
-    ensures { result.now ≡ claim_words_of name }
-{
-    match name {
-        ClaimName::OfTest(Test::First) => "claim first",
-        ClaimName::OfTest(Test::Degree) => "claim degree",
-        ClaimName::OfTest(Test::Order) => "claim order",
-        ClaimName::OfTest(Test::Cross) => "claim cross",
-        ClaimName::OfTest(Test::Size) => "claim size",
-        ClaimName::OfTest(Test::Intersect) => "claim intersect",
-        ClaimName::OfTest(Test::Handshake) => "claim handshake",
-        ClaimName::OfTest(Test::Induced) => "claim induced",
-        ClaimName::OfTest(Test::Triangles) => "claim triangles",
-        ClaimName::OfTest(Test::Mult) => "claim mult",
-        ClaimName::OfTest(Test::Krein) => "claim krein",
-        ClaimName::OfTest(Test::Absolute) => "claim absolute",
-        ClaimName::OfTest(Test::Triple) => "claim triple",
-        ClaimName::OfTest(Test::Ktriple) => "claim ktriple",
     }
 }
