@@ -2,15 +2,13 @@
 use Rattle.std.proofs.Common.{◌≡◌, ℕ, zero, suc, ◌<◌, ◌≤◌, ◌+◌, List, [], ◌∷◌, ◌++◌, map, refl, ap, ap₂, sym, ◌∙◌, subst, arith, inl, inr}
 use Rattle.std.specs.List.{range_with_len}
 use Rattle.drg_fraction.specs.Operations.{Operations}
-use Rattle.drg_intersection.specs.Numbers.{Numbers}
 use Rattle.drg_matrix.specs.Table.{Square, cell}
 use Rattle.drg_matrix.specs.Table as Table
 use Rattle.drg_matrix.specs.Product.{IsBefore}
 use Rattle.drg_matrices.specs.Tables.{FrameTables, diameter_of, root_of_tables}
 use Rattle.drg_krein.specs.declared.copies.Matrix.{Matrix}
-use Rattle.drg_krein.specs.declared.copies.Matrix.TheVariants.{Cosines, Dual}
 use Rattle.drg_krein.specs.Copies.{IsCopy, entry_in}
-use Rattle.drg_krein.specs.Values.{FrameValues, values_in}
+use Rattle.drg_krein.specs.Values.{FrameValues}
 use Rattle.drg_krein.specs.Formulas.{row_of, krein_number}
 use Rattle.drg_krein.specs.Filling.{HasNumbers}
 use Rattle.drg_krein.proofs.Orders.{same_or_before}

@@ -8,3 +8,4 @@ mod Counts
 mod Products
 mod Full
 mod Meets
+mod VanishingLists

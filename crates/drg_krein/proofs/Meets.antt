@@ -1,5 +1,5 @@
 -- The parameters in the tables meet the equations of Krein parameters.
-use Rattle.std.proofs.Common.{◌≡◌, ℕ, suc, ◌≤◌, List, true, false, refl, ap, sym, ◌∙◌, subst, arith, inl, inr}
+use Rattle.std.proofs.Common.{◌≡◌, ℕ, suc, ◌≤◌, true, false, ap, sym, ◌∙◌, subst, arith, inl, inr}
 use Rattle.std.specs.Prelude.{nat_lt}
 use Rattle.std.proofs.lemmas.Bool.{cases_lt}
 use Rattle.std.proofs.lemmas.Bool.Decides.{nat_tests}
@@ -7,12 +7,11 @@ use Rattle.drg_algebra.proofs.Totals.{same_sum}
 use Rattle.drg_array.specs.Entries.{Entries, diameter}
 use Rattle.drg_fraction.specs.Operations.{Operations}
 use Rattle.drg_fraction.specs.Field.{IsExactField}
-use Rattle.drg_matrix.specs.Table.{Square}
 use Rattle.drg_matrix.specs.Krein.{AreKreinNumbers}
 use Rattle.drg_matrices.specs.Values.{count_value}
 use Rattle.drg_krein.specs.Values.{FrameValues}
 use Rattle.drg_krein.specs.Formulas.{krein_number}
-use Rattle.drg_krein.specs.Tables.{KreinTables, krein_in, table_at}
+use Rattle.drg_krein.specs.Tables.{KreinTables, krein_in}
 use Rattle.drg_krein.specs.Filling.{AreFull}
 
 -- the formula for the diameter and the number of vertices of an array

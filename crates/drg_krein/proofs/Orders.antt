@@ -1,7 +1,7 @@
 -- What holds of all i ≤ j and h before a place: one place more, one row more, all.
-use Rattle.std.proofs.Common.{◌≡◌, ℕ, suc, ◌<◌, ◌≤◌, sym, subst, arith, ◌⊎◌, inl, inr}
+use Rattle.std.proofs.Common.{◌≡◌, ℕ, suc, ◌<◌, sym, subst, arith, ◌⊎◌, inl, inr}
 use Rattle.std.proofs.lemmas.Bool.{cases_lt}
-use Rattle.drg_krein.specs.Faults.{ComesBefore, HoldsBefore, HoldsAll}
+use Rattle.drg_krein.specs.Faults.{HoldsBefore, HoldsAll}
 
 pub same_or_before : (m n : ℕ) → m < suc n → (m < n) ⊎ (m ≡ n)
 same_or_before m n h =

@@ -9,7 +9,6 @@ use Rattle.drg_matrices.specs.Tables.{FrameTables, diameter_of, root_of_tables}
 use Rattle.drg_krein.specs.declared.copies.Matrix.TheVariants.{Dual}
 use Rattle.drg_krein.specs.Copies.{IsCopy}
 use Rattle.drg_krein.specs.Values.{FrameValues, values_in}
-use Rattle.drg_krein.specs.Formulas.{row_of, krein_number}
 use Rattle.drg_krein.specs.Fits.{kprod_fits}
 use Rattle.drg_krein.specs.Filling.{HasNumbers}
 use Rattle.drg_krein.proofs.Cells.{row_of_copy, row_of_numbers}

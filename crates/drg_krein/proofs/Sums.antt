@@ -1,5 +1,5 @@
 -- The dot of two lists of values of a place is the sum of the products over the places.
-use Rattle.std.proofs.Common.{◌≡◌, ℕ, zero, suc, ◌+◌, List, [], ◌∷◌, map, refl, sym, ap, ap₂, ◌∙◌, arith}
+use Rattle.std.proofs.Common.{◌≡◌, ℕ, zero, suc, ◌+◌, List, [], ◌∷◌, map, refl, ap, ap₂, ◌∙◌, arith}
 use Rattle.std.specs.List.{range_with_len}
 use Rattle.drg_algebra.specs.Ring.{IsRing, CommutativeRing}
 use Rattle.drg_algebra.specs.Tables.{total, list_sum}

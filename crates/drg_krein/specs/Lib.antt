@@ -5,4 +5,5 @@ pub mod Faults
 pub mod Tables
 pub mod Copies
 pub mod Filling
+pub mod Vanishing
 pub mod Laws

@@ -1,5 +1,5 @@
 -- The Krein parameters of a frame of diameter d, in d+1 tables of d+1 rows and columns each.
-use Rattle.std.specs.Prelude.{◌≡◌, ℕ, suc, ◌≤◌, ◌<◌, true, Bool, nat_lt, if◌then◌else◌, List, [], length, slice_index_or}
+use Rattle.std.specs.Prelude.{◌≡◌, ℕ, suc, ◌≤◌, true, nat_lt, if◌then◌else◌, List, [], length, slice_index_or}
 use Rattle.drg_array.specs.declared.limits.TheConstants.{MAX_DIAMETER}
 use Rattle.drg_fraction.specs.Operations.{Operations}
 use Rattle.drg_matrix.specs.Table.{Square, cell}

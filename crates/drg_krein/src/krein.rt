@@ -7,18 +7,20 @@ ghost use Rattle.drg_matrices.specs.Tables.{diameter_of, dual_in, root_of_tables
 ghost use Rattle.drg_krein.specs.Values.{IsFrameOfNumbers, values_in};
 ghost use Rattle.drg_krein.specs.Faults.{AllFit, IsFault};
 ghost use Rattle.drg_krein.specs.Tables.{krein_in};
+ghost use Rattle.drg_krein.specs.Vanishing.{AreVanishing};
 
 use crate::checks::{products, signs};
 use crate::copies::{Matrix, copy_of};
 use crate::fault::KreinFault;
 use crate::laws::formula_law;
 use crate::numbers::tables_of;
+use crate::vanishing::vanishing_of;
 use drg_array::MAX_DIAMETER;
 use drg_fraction::Field;
 use drg_intersection::Numbers;
 use drg_matrices::Frame;
 use drg_matrix::Table;
-use std::alloc::Global;
+use std::alloc::{AllocError, Global};
 use std::cmp::Ordering;
 use std::marker::Model;
 
@@ -77,6 +79,15 @@ impl<F: Field> Krein<F> {
             (krein_in F.value F.operations self.now h i j) result }
     {
         sign_of(self.q(i, j, h))
+    }
+
+    /// The indices i, j and h of the parameters q^h_ij that are 0, each from 1 to d, in lexicographic
+    /// order. Want of memory is the one error.
+    pub fn vanishing(&self, alloc: Global) -> Result<Vec<(u8, u8, u8)>, AllocError>
+        ensures { IfOk result (λ found.
+            AreVanishing F.value F.operations self.now found.items) }
+    {
+        vanishing_of(alloc, self)
     }
 }
 

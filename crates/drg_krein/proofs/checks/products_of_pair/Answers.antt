@@ -1,4 +1,4 @@
-use Rattle.std.proofs.Common.{◌≡◌, ◌≤◌, ◌+◌, suc, true, false, not, ap, sym, ◌∙◌, arith}
+use Rattle.std.proofs.Common.{◌≡◌, ◌≤◌, ◌+◌, true, false, not, ap, sym, ◌∙◌, arith}
 use Rattle.std.specs.Prelude.{is_ok}
 use Rattle.drg_array.specs.declared.node.Node.TheVariants.{Kprod}
 use Rattle.drg_matrices.specs.Tables.{diameter_of, root_of_tables}

@@ -1,4 +1,4 @@
-use Rattle.std.proofs.Common.{◌≡◌, ℕ, ◌≤◌, ◌+◌, suc, true, false, not, ap, ap₂, sym, ◌∙◌, arith, inl}
+use Rattle.std.proofs.Common.{◌≡◌, ℕ, ◌≤◌, ◌+◌, true, false, not, ap, ap₂, sym, ◌∙◌, arith, inl}
 use Rattle.std.specs.Prelude.{is_ok}
 use Rattle.drg_array.specs.declared.node.Node.TheVariants.{Sign}
 use Rattle.drg_matrices.specs.Tables.{diameter_of, root_of_tables}

@@ -1,5 +1,5 @@
-use Rattle.std.proofs.Common.{◌≡◌, ℕ, ap, ◌∙◌, subst}
-use Rattle.drg_matrices.specs.Tables.{root_of_tables, diameter_of, theta_in, cosine_in, eigen_in, dual_in}
+use Rattle.std.proofs.Common.{ap, ◌∙◌, subst}
+use Rattle.drg_matrices.specs.Tables.{root_of_tables, theta_in}
 use Rattle.drg_krein.specs.Values.{values_in}
 use Rattle.drg_krein.proofs.Full.{tables_are}
 use Rattle.drg_krein.proofs.Meets.{numbers_of_array, symmetric_of_array, tables_meet}

@@ -1,4 +1,4 @@
-use Rattle.std.proofs.Common.{◌≡◌, ℕ, sym, subst, rules}
+use Rattle.std.proofs.Common.{ℕ, sym, subst, rules}
 use Rattle.drg_matrices.specs.Frame.{IsFrameOf}
 use Rattle.drg_matrices.specs.Tables.{theta_in, cosine_in, eigen_in, dual_in}
 use Rattle.drg_krein.proofs.tests.krein_over.Goals as goal
