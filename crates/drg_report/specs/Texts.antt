@@ -10,7 +10,7 @@ use Rattle.drg_intersection.specs.Numbers.{Numbers, k_at, n_of}
 use Rattle.drg_report.specs.Words.{pending_text, verdict_words}
 use Rattle.drg_report.specs.declared.verdict.Pending.{Pending}
 use Rattle.drg_report.specs.declared.verdict.Verdict.{Verdict}
-use Rattle.drg_report.specs.declared.verdict.Verdict.TheVariants.{Infeasible, Undecided, Survivor}
+use Rattle.drg_report.specs.declared.verdict.Verdict.TheVariants.{Infeasible, Undecided, RefusedSpectrum, Survivor}
 
 -- what the verdict says in a few words
 abbrev pub verdict_line : Verdict → List ℕ
@@ -53,5 +53,8 @@ report_text a (Infeasible found) =
     ++ pending_lines found.pending
 report_text a (Undecided found) =
     verdict_line (Undecided found) ++ array_lines a found.passed ++ pending_lines found.pending
+report_text a (RefusedSpectrum found) =
+    verdict_line (RefusedSpectrum found) ++ array_lines a found.passed
+    ++ pending_lines found.pending
 report_text a (Survivor found) =
     verdict_line (Survivor found) ++ array_lines a found.passed ++ numbers_lines found.numbers

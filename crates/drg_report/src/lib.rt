@@ -16,7 +16,8 @@ mod words;
 pub use laws::kind_law;
 pub use report::render;
 pub use verdict::{
-    Cause, Infeasible, PassedTests, Pending, PendingTests, Survivor, Undecided, Verdict,
+    Cause, Infeasible, PassedTests, Pending, PendingTests, RefusedSpectrum, Spectra,
+    SpectralTables, Survivor, Undecided, Verdict,
 };
 pub use words::{verdict_words, write_claim_with_class};
 

@@ -30,6 +30,11 @@ pub fn render(alloc: Global, array: &Array, verdict: &Verdict) -> Result<Vec<u8>
             write_array_lines(array, found.passed.as_slice(), &mut text)?;
             write_pending_lines(found.pending.as_slice(), &mut text)?;
         }
+        Verdict::RefusedSpectrum(found) => {
+            write_verdict_line(verdict, &mut text)?;
+            write_array_lines(array, found.passed.as_slice(), &mut text)?;
+            write_pending_lines(found.pending.as_slice(), &mut text)?;
+        }
         Verdict::Survivor(found) => {
             write_verdict_line(verdict, &mut text)?;
             write_array_lines(array, found.passed.as_slice(), &mut text)?;

@@ -42,6 +42,7 @@ fn fails(
         class,
         derivation,
         pending: PendingTests::new(pending),
+        other: None,
     }))
 }
 
@@ -52,6 +53,7 @@ fn stops(alloc: Global, passed: &[Test], entry: Pending) -> Result<Verdict, Fail
     Ok(Verdict::Undecided(Undecided {
         passed: PassedTests::new(passed.to_vec(alloc)?),
         pending: PendingTests::new(pending),
+        other: None,
     }))
 }
 
@@ -77,6 +79,7 @@ fn a_survivor(rt: HostRuntime) -> Result<(), Fail> {
     let verdict = Verdict::Survivor(Survivor {
         passed: PassedTests::new(FIRST_SIX.to_vec(rt.alloc())?),
         numbers: numbers_of(rt.alloc(), &petersen)?,
+        spectra: None,
     });
     let text = "verdict survivor\narray {3,2;1,1}\n\
 passed first degree order cross size intersect\nn 10\nsizes 1 3 6\n";

@@ -4,7 +4,11 @@ ghost use Rattle.std.specs.Prelude.{◌≡◌, [], ◌∷◌, ◌++◌, OnOk, On
 
 use drg_array::{Claim, Class, Node, Test};
 use drg_derivation::Derivation;
+use drg_eigen::OtherSpectrum;
+use drg_fraction::{Field, Fraction};
 use drg_intersection::Numbers;
+use drg_matrices::Frame;
+use drg_quadratic::Quadratic;
 use std::alloc::AllocError;
 use std::marker::Model;
 
@@ -13,6 +17,8 @@ use std::marker::Model;
 pub enum Cause {
     /// The formula of this number has a work number above 2^127 - 1 in magnitude.
     Wide(Node),
+    /// No one quadratic field holds all eigenvalues.
+    Spectrum,
 }
 
 /// A test that isn't decided.
@@ -103,6 +109,22 @@ impl PendingTests {
     }
 }
 
+/// The tables of an array over an exact field that holds its eigenvalues.
+#[derive(Drop)]
+pub struct SpectralTables<F: Field> {
+    /// The eigenvalues with the matrices P and Q.
+    pub frame: Frame<F>,
+}
+
+/// The tables of an array, over the field of its eigenvalues.
+#[derive(Drop)]
+pub enum Spectra {
+    /// All eigenvalues are rational.
+    Rational(SpectralTables<Fraction>),
+    /// All eigenvalues lie in one quadratic field, and not all are rational.
+    Quadratic(SpectralTables<Quadratic>),
+}
+
 /// The array fails the claim, and the derivation shows it.
 #[derive(Drop)]
 pub struct Infeasible {
@@ -111,13 +133,27 @@ pub struct Infeasible {
     pub derivation: Derivation,
     /// The tests before that of the claim that aren't decided.
     pub pending: PendingTests,
+    /// Why no one quadratic field holds the eigenvalues, where an entry has this cause.
+    pub other: Option<OtherSpectrum>,
 }
 
-/// No test is found false, and one can't be decided.
+/// No test is found false, and a number is too wide for one to be decided.
 #[derive(Drop)]
 pub struct Undecided {
     pub passed: PassedTests,
     pub pending: PendingTests,
+    /// Why no one quadratic field holds the eigenvalues, where an entry has this cause.
+    pub other: Option<OtherSpectrum>,
+}
+
+/// No test is found false, and those that can't be decided are just those that ask for all
+/// eigenvalues in one quadratic field, which doesn't exist.
+#[derive(Drop)]
+pub struct RefusedSpectrum {
+    pub passed: PassedTests,
+    pub pending: PendingTests,
+    /// Why no one quadratic field holds the eigenvalues.
+    pub other: OtherSpectrum,
 }
 
 /// Every test that ran holds. It isn't said that the array has a graph.
@@ -125,6 +161,8 @@ pub struct Undecided {
 pub struct Survivor {
     pub passed: PassedTests,
     pub numbers: Numbers,
+    /// The tables that the report prints, where a test that ran asks for them.
+    pub spectra: Option<Spectra>,
 }
 
 /// What the tests found in an array.
@@ -132,5 +170,6 @@ pub struct Survivor {
 pub enum Verdict {
     Infeasible(Infeasible),
     Undecided(Undecided),
+    RefusedSpectrum(RefusedSpectrum),
     Survivor(Survivor),
 }

@@ -10,8 +10,8 @@ use crate::{Cause, Pending, Verdict};
 use drg_array::{Claim, Class};
 use std::alloc::{AllocError, Global};
 
-/// What was found of an array in a few words: `survivor`, `undecided`, or `infeasible` with the
-/// claim and its class. The one error is want of memory.
+/// What was found of an array in a few words: `survivor`, `undecided`, `refused-spectrum`, or
+/// `infeasible` with the claim and its class. The one error is want of memory.
 pub fn verdict_words(alloc: Global, verdict: &Verdict) -> Result<Vec<u8>, AllocError>
     ensures { IfOk result (λ words. words.items ≡ the_verdict_words verdict.now) }
 {
@@ -32,6 +32,7 @@ pub(crate) fn write_verdict_words(verdict: &Verdict, out: &mut Vec<u8>) -> Resul
             write_claim_with_class(found.claim, found.class, out)
         }
         Verdict::Undecided(_) => out.extend_from_slice(b"undecided"),
+        Verdict::RefusedSpectrum(_) => out.extend_from_slice(b"refused-spectrum"),
         Verdict::Survivor(_) => out.extend_from_slice(b"survivor"),
     }
 }
@@ -71,5 +72,6 @@ fn write_cause(cause: &Cause, out: &mut Vec<u8>) -> Result<(), AllocError>
             out.extend_from_slice(b"wide ")?;
             node.write_text(out)
         }
+        Cause::Spectrum => out.extend_from_slice(b"spectrum"),
     }
 }
