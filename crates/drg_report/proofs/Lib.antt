@@ -1,1 +1,2 @@
 mod Appends
+pub mod FrameTexts

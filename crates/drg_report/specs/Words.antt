@@ -5,6 +5,8 @@ use Rattle.drg_array.specs.Claims.{claim_text, class_name, test_name}
 use Rattle.drg_array.specs.Nodes.{node_text}
 use Rattle.drg_array.specs.declared.claim.Claim.{Claim}
 use Rattle.drg_array.specs.declared.claim.Class.{Class}
+use Rattle.drg_fraction.specs.Operations.{Operations}
+use Rattle.drg_quadratic.specs.Text.{value_text}
 use Rattle.drg_report.specs.declared.verdict.Cause.{Cause}
 use Rattle.drg_report.specs.declared.verdict.Cause.TheVariants.{Wide, Spectrum}
 use Rattle.drg_report.specs.declared.verdict.Pending.{Pending}
@@ -31,3 +33,7 @@ cause_text Spectrum = codes "spectrum"
 -- a test that isn't decided, and why
 abbrev pub pending_text : Pending → List ℕ
 pending_text entry = test_name entry.test ++ codes " " ++ cause_text entry.cause
+
+-- a value of a field over a root, by its parts a + b √root
+abbrev pub field_text : {V : Type 0} → Operations V → ℕ → V → List ℕ
+field_text o root x = value_text root (record { a = o.rational_part x; b = o.root_part x })

@@ -8,8 +8,10 @@
 //! Whether a verdict is right isn't said here.
 #![tactic(auto)]
 
+mod certificate;
 mod laws;
 mod report;
+mod tables;
 mod verdict;
 mod words;
 

@@ -7,6 +7,8 @@ ghost use Rattle.std.specs.Prelude.{◌≡◌, ◌++◌, suc, IfOk, OnOk, OnErr}
 ghost use Rattle.drg_algebra.specs.Beginnings.{BeginsWith};
 ghost use Rattle.drg_report.specs.Texts.{array_lines, names_text, numbers_lines, pending_line, pending_lines, report_text, sizes_text, verdict_line};
 
+use crate::certificate::{write_certificate_lines, write_other_lines};
+use crate::tables::write_spectra_lines;
 use crate::words::{write_pending_text, write_verdict_words};
 use crate::{Pending, Verdict};
 use drg_array::{Array, Test};
@@ -24,21 +26,25 @@ pub fn render(alloc: Global, array: &Array, verdict: &Verdict) -> Result<Vec<u8>
             found.derivation.write_text(&mut text)?;
             write_verdict_line(verdict, &mut text)?;
             write_pending_lines(found.pending.as_slice(), &mut text)?;
+            write_other_lines(&found.other, &mut text)?;
         }
         Verdict::Undecided(found) => {
             write_verdict_line(verdict, &mut text)?;
             write_array_lines(array, found.passed.as_slice(), &mut text)?;
             write_pending_lines(found.pending.as_slice(), &mut text)?;
+            write_other_lines(&found.other, &mut text)?;
         }
         Verdict::RefusedSpectrum(found) => {
             write_verdict_line(verdict, &mut text)?;
             write_array_lines(array, found.passed.as_slice(), &mut text)?;
             write_pending_lines(found.pending.as_slice(), &mut text)?;
+            write_certificate_lines(&found.other, &mut text)?;
         }
         Verdict::Survivor(found) => {
             write_verdict_line(verdict, &mut text)?;
             write_array_lines(array, found.passed.as_slice(), &mut text)?;
             write_numbers_lines(&found.numbers, &mut text)?;
+            write_spectra_lines(&found.spectra, &mut text)?;
         }
     }
     Ok(text)

@@ -1,11 +1,18 @@
 //! Texts by hand. The verdicts needn't be right.
+
+ghost use Rattle.drg_intersection.specs.Numbers.{AreNumbersOf};
+
 use crate::{
-    Cause, Infeasible, PassedTests, Pending, PendingTests, Survivor, Undecided, Verdict, render,
-    verdict_words,
+    Cause, Infeasible, PassedTests, Pending, PendingTests, RefusedSpectrum, Spectra,
+    SpectralTables, Survivor, Undecided, Verdict, render, verdict_words,
 };
 use drg_array::{Array, Claim, Class, Node, Test};
 use drg_derivation::Derivation;
-use drg_intersection::numbers_of;
+use drg_eigen::{OtherSpectrum, Split, characteristic, split_of};
+use drg_fraction::Fraction;
+use drg_intersection::{Numbers, numbers_of};
+use drg_matrices::frame_of;
+use drg_quadratic::Quadratic;
 use std::alloc::Global;
 use std::process::Abort;
 use std::test::Fail;
@@ -28,6 +35,57 @@ fn wide(test: Test, node: Node) -> Pending {
     }
 }
 
+/// A test that isn't decided, since no one quadratic field holds the eigenvalues.
+fn refused(test: Test) -> Pending {
+    Pending {
+        test,
+        cause: Cause::Spectrum,
+    }
+}
+
+/// The eigenvalues of the array with its matrices. There are none where no one quadratic field holds
+/// the eigenvalues.
+fn spectra_of(alloc: Global, array: &Array, numbers: &Numbers) -> Result<Option<Spectra>, Fail>
+    requires { AreNumbersOf array.now numbers.now }
+{
+    array.known_valid();
+    let poly = characteristic(alloc, array)?;
+    let Split::Spectrum(spectrum) = split_of(alloc, &poly, array.valency())? else {
+        return Ok(None);
+    };
+    if array.c(1) != 1 {
+        return Ok(None);
+    }
+    if spectrum.root == 0 {
+        let frame = frame_of::<Fraction>(alloc, array, numbers, &spectrum)?;
+        return Ok(Some(Spectra::Rational(SpectralTables { frame })));
+    }
+    let frame = frame_of::<Quadratic>(alloc, array, numbers, &spectrum)?;
+    Ok(Some(Spectra::Quadratic(SpectralTables { frame })))
+}
+
+/// The certificate of an array, where no one quadratic field holds its eigenvalues.
+fn other_of(alloc: Global, array: &Array) -> Result<Option<OtherSpectrum>, Fail> {
+    let poly = characteristic(alloc, array)?;
+    match split_of(alloc, &poly, array.valency())? {
+        Split::Spectrum(_spectrum) => Ok(None),
+        Split::Other(other) => Ok(Some(other)),
+    }
+}
+
+/// The array passes the tests that always run and this one, with the tables of its eigenvalues.
+fn survives(alloc: Global, array: &Array, test: Test) -> Result<Verdict, Fail> {
+    let numbers = numbers_of(alloc, array)?;
+    let spectra = spectra_of(alloc, array, &numbers)?;
+    let mut passed = FIRST_SIX.to_vec(alloc)?;
+    passed.push(test)?;
+    Ok(Verdict::Survivor(Survivor {
+        passed: PassedTests::new(passed),
+        numbers,
+        spectra,
+    }))
+}
+
 /// The array fails this claim, with a derivation of no lines.
 fn fails(
     alloc: Global,
@@ -35,6 +93,7 @@ fn fails(
     claim: Claim,
     class: Class,
     pending: Vec<Pending>,
+    other: Option<OtherSpectrum>,
 ) -> Result<Verdict, Fail> {
     let derivation = Derivation::make(array.copied(), claim, Vec::new(alloc)).ok_or("no text")?;
     Ok(Verdict::Infeasible(Infeasible {
@@ -42,7 +101,7 @@ fn fails(
         class,
         derivation,
         pending: PendingTests::new(pending),
-        other: None,
+        other,
     }))
 }
 
@@ -96,6 +155,7 @@ fn infeasible_arrays(rt: HostRuntime) -> Result<(), Fail> {
         Claim::Degree { i: 1 },
         Class::Counting,
         Vec::new(alloc),
+        None,
     )?;
     let words = "infeasible degree 1 counting";
     let text =
@@ -105,7 +165,7 @@ fn infeasible_arrays(rt: HostRuntime) -> Result<(), Fail> {
     let mut pending = Vec::new(alloc);
     pending.push(wide(Test::Mult, Node::Linear { r: -3 }))?;
     pending.push(wide(Test::Ktriple, Node::N))?;
-    let spectral = fails(alloc, &array, ktriple, Class::Spectral, pending)?;
+    let spectral = fails(alloc, &array, ktriple, Class::Spectral, pending, None)?;
     let words = "infeasible ktriple 1 2 2 spectral";
     let text = "drg 1\narray 2 3 3 1 1\nclaim ktriple 1 2 2\nend\n\
 verdict infeasible ktriple 1 2 2 spectral\n\
@@ -126,4 +186,132 @@ pending size wide k 11\n";
     let text = "verdict undecided\narray {3,2;1,1}\npassed first degree order cross size\n\
 pending intersect wide p 0 15 14\n";
     says(&rt, alloc, &array, intersect, "undecided", text)
+}
+
+/// The Petersen graph over the rationals, the pentagon over √5, the octagon over √2, and the array
+/// {4,3;1,1} over √13, whose multiplicities aren't whole.
+#[test]
+fn tables_of_survivors(rt: HostRuntime) -> Result<(), Fail> {
+    let cases: [(&[u8], Test, &str); 4] = [
+        (
+            b"{3,2;1,1}",
+            Test::Mult,
+            "verdict survivor\narray {3,2;1,1}\n\
+passed first degree order cross size intersect mult\nn 10\nsizes 1 3 6\n\
+root 0\ntheta 3 1 -2\nP 1 3 6\nP 1 1 -2\nP 1 -2 1\n\
+Q 1 5 4\nQ 1 5/3 -8/3\nQ 1 -5/3 2/3\n",
+        ),
+        (
+            b"{2,1;1,1}",
+            Test::Krein,
+            "verdict survivor\narray {2,1;1,1}\n\
+passed first degree order cross size intersect krein\nn 5\nsizes 1 2 2\n\
+root 5\ntheta 2 -1/2+1/2r5 -1/2-1/2r5\n\
+P 1 2 2\nP 1 -1/2+1/2r5 -1/2-1/2r5\nP 1 -1/2-1/2r5 -1/2+1/2r5\n\
+Q 1 2 2\nQ 1 -1/2+1/2r5 -1/2-1/2r5\nQ 1 -1/2-1/2r5 -1/2+1/2r5\n",
+        ),
+        (
+            b"{2,1,1,1;1,1,1,2}",
+            Test::Absolute,
+            "verdict survivor\narray {2,1,1,1;1,1,1,2}\n\
+passed first degree order cross size intersect absolute\nn 8\nsizes 1 2 2 2 1\n\
+root 2\ntheta 2 1r2 0 -1r2 -2\n\
+P 1 2 2 2 1\nP 1 1r2 0 -1r2 -1\nP 1 0 -2 0 1\nP 1 -1r2 0 1r2 -1\nP 1 -2 2 -2 1\n\
+Q 1 2 2 2 1\nQ 1 1r2 0 -1r2 -1\nQ 1 0 -2 0 1\nQ 1 -1r2 0 1r2 -1\nQ 1 -2 2 -2 1\n",
+        ),
+        (
+            b"{4,3;1,1}",
+            Test::Ktriple,
+            "verdict survivor\narray {4,3;1,1}\n\
+passed first degree order cross size intersect ktriple\nn 17\nsizes 1 4 12\n\
+root 13\ntheta 4 -1/2+1/2r13 -1/2-1/2r13\n\
+P 1 4 12\nP 1 -1/2+1/2r13 -1/2-1/2r13\nP 1 -1/2-1/2r13 -1/2+1/2r13\n\
+Q 1 8+4/13r13 8-4/13r13\nQ 1 -1/2+25/26r13 -1/2-25/26r13\n\
+Q 1 -1/2-9/26r13 -1/2+9/26r13\n",
+        ),
+    ];
+    for (array, test, text) in cases {
+        let array = Array::read(array)?;
+        let verdict = survives(rt.alloc(), &array, test)?;
+        says(&rt, rt.alloc(), &array, verdict, "survivor", text)?;
+    }
+    Ok(())
+}
+
+/// The cube of dimension 12, whose matrices have the values of Krawtchouk polynomials.
+#[test]
+fn tables_of_diameter_twelve(rt: HostRuntime) -> Result<(), Fail> {
+    let cube = Array::read(b"{12,11,10,9,8,7,6,5,4,3,2,1;1,2,3,4,5,6,7,8,9,10,11,12}")?;
+    let verdict = survives(rt.alloc(), &cube, Test::Mult)?;
+    let report = render(rt.alloc(), &cube, &verdict)?;
+    let last = "\nQ 1 -12 66 -220 495 -792 924 -792 495 -220 66 -12 1\n";
+    assert_eq!(rt; report.len(), 1329);
+    assert!(rt; report.ends_with(last.as_bytes()));
+    Ok(())
+}
+
+/// The heptagon, of whose eigenvalues only one is rational, and the Tutte 12-cage, which needs √2 and
+/// √6.
+#[test]
+fn refused_spectra(rt: HostRuntime) -> Result<(), Fail> {
+    let cases: [(&[u8], &str); 2] = [
+        (
+            b"{2,1,1;1,1,1}",
+            "verdict refused-spectrum\narray {2,1,1;1,1,1}\n\
+passed first degree order cross size intersect\n\
+pending mult spectrum\npending krein spectrum\n\
+factor -2 1\nrest -1 -2 1 1\n",
+        ),
+        (
+            b"{3,2,2,2,2,2;1,1,1,1,1,3}",
+            "verdict refused-spectrum\narray {3,2,2,2,2,2;1,1,1,1,1,3}\n\
+passed first degree order cross size intersect\n\
+pending mult spectrum\npending krein spectrum\n\
+factor -3 1\nfactor 0 1\nfactor 3 1\nfactor -2 0 1\nfactor -6 0 1\n\
+first -2 0 1\nsecond -6 0 1\n",
+        ),
+    ];
+    for (array, text) in cases {
+        let array = Array::read(array)?;
+        let mut pending = Vec::new(rt.alloc());
+        pending.push(refused(Test::Mult))?;
+        pending.push(refused(Test::Krein))?;
+        let verdict = Verdict::RefusedSpectrum(RefusedSpectrum {
+            passed: PassedTests::new(FIRST_SIX.to_vec(rt.alloc())?),
+            pending: PendingTests::new(pending),
+            other: other_of(rt.alloc(), &array)?.ok_or("one field")?,
+        });
+        says(&rt, rt.alloc(), &array, verdict, "refused-spectrum", text)?;
+    }
+    Ok(())
+}
+
+/// An infeasible array and an undecided one with the certificate of the heptagon.
+#[test]
+fn certificates(rt: HostRuntime) -> Result<(), Fail> {
+    let alloc = rt.alloc();
+    let array = Array::read(b"{2,1,1;1,1,1}")?;
+    let mut pending = Vec::new(alloc);
+    pending.push(refused(Test::Mult))?;
+    let claim = Claim::Triple { u: 1, v: 1, w: 2 };
+    let other = other_of(alloc, &array)?;
+    let infeasible = fails(alloc, &array, claim, Class::Counting, pending, other)?;
+    let words = "infeasible triple 1 1 2 counting";
+    let text = "drg 1\narray 3 2 1 1 1 1 1\nclaim triple 1 1 2\nend\n\
+verdict infeasible triple 1 1 2 counting\npending mult spectrum\n\
+factor -2 1\nrest -1 -2 1 1\n";
+    says(&rt, alloc, &array, infeasible, words, text)?;
+    let mut pending = Vec::new(alloc);
+    pending.push(refused(Test::Absolute))?;
+    pending.push(wide(Test::Triple, Node::Rec { i: 1, j: 2 }))?;
+    let undecided = Verdict::Undecided(Undecided {
+        passed: PassedTests::new(FIRST_SIX.to_vec(alloc)?),
+        pending: PendingTests::new(pending),
+        other: other_of(alloc, &array)?,
+    });
+    let text = "verdict undecided\narray {2,1,1;1,1,1}\n\
+passed first degree order cross size intersect\n\
+pending absolute spectrum\npending triple wide rec 1 2\n\
+factor -2 1\nrest -1 -2 1 1\n";
+    says(&rt, alloc, &array, undecided, "undecided", text)
 }

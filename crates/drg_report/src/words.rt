@@ -4,10 +4,12 @@
 
 ghost use Rattle.std.specs.Prelude.{◌≡◌, ◌++◌, IfOk, OnOk, OnErr};
 ghost use Rattle.drg_algebra.specs.Beginnings.{BeginsWith};
-ghost use Rattle.drg_report.specs.Words.{cause_text, claim_with_class, pending_text, verdict_words as the_verdict_words};
+ghost use Rattle.drg_report.specs.Words.{cause_text, claim_with_class, field_text, pending_text, verdict_words as the_verdict_words};
 
 use crate::{Cause, Pending, Verdict};
 use drg_array::{Claim, Class};
+use drg_fraction::Field;
+use drg_quadratic::Quadratic;
 use std::alloc::{AllocError, Global};
 
 /// What was found of an array in a few words: `survivor`, `undecided`, `refused-spectrum`, or
@@ -74,4 +76,16 @@ fn write_cause(cause: &Cause, out: &mut Vec<u8>) -> Result<(), AllocError>
         }
         Cause::Spectrum => out.extend_from_slice(b"spectrum"),
     }
+}
+
+/// Appends a value of a field, as in `-1/2+1/2r5`.
+pub(crate) fn write_value<F: Field>(value: F, out: &mut Vec<u8>) -> Result<(), AllocError>
+    ensures ok { let root = F.root_of value in OnOk result (out.new.items
+        ≡ out.old.items ++ field_text (F.operations root) root (F.value value)) }
+    ensures err { let root = F.root_of value in OnErr result
+        (BeginsWith (field_text (F.operations root) root (F.value value))
+        out.old.items out.new.items) }
+{
+    let (a, b) = value.parts();
+    Quadratic::make(a, b, value.root()).write_text(out)
 }
