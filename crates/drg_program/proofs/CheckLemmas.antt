@@ -16,6 +16,7 @@ readable : (a : Entries) (tests : List Test) (v : Verdict) → TextLaw → OneTe
 readable a tests (verdict.Infeasible found) law one array h =
     (one (derivation_text found.derivation) found.derivation).1 (law found.derivation (shown a tests found array h), refl)
 readable a tests (verdict.Undecided found) law one array h = tt
+readable a tests (verdict.RefusedSpectrum found) law one array h = tt
 readable a tests (verdict.Survivor found) law one array h = tt
 
 -- what is right is judged

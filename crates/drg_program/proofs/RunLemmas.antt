@@ -23,6 +23,7 @@ use Rattle.drg_program.proofs.GraphLemmas as graph
 judged : (v : Verdict) (tests : List Test) (file : List ℕ) → IsAnswerOf (status_of v) (Check tests file)
 judged (verdict.Infeasible found) tests file = tt
 judged (verdict.Undecided found) tests file = tt
+judged (verdict.RefusedSpectrum found) tests file = tt
 judged (verdict.Survivor found) tests file = tt
 
 told : (claim : Claim) (answer : Result Class ReplayFault) (status : Status) (text file : List ℕ) → Tells claim answer status text → IsAnswerOf status (Replay file)

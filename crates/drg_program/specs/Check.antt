@@ -12,7 +12,7 @@ use Rattle.drg_report.specs.declared.verdict.Verdict.TheVariants as verdict
 use Rattle.drg_engine.specs.Laws.{IsDecided, NoneIsWide}
 use Rattle.drg_engine.specs.Verdicts.{VerdictHolds}
 use Rattle.drg_program.specs.declared.status.Status.{Status}
-use Rattle.drg_program.specs.declared.status.Status.TheVariants.{Survivor, Infeasible, Undecided}
+use Rattle.drg_program.specs.declared.status.Status.TheVariants.{Survivor, Infeasible, RefusedSpectrum, Undecided}
 
 -- less one LF or CR LF at the end
 abbrev pub without_line_end : List ℕ → List ℕ
@@ -37,6 +37,7 @@ IsFaultAt bytes at = HasNoArray bytes × (kind : ArrayKind) × IsFault (without_
 abbrev pub IsReadable : Verdict → Type 0
 IsReadable (verdict.Infeasible found) = IsDerivationText (derivation_text found.derivation) found.derivation
 IsReadable (verdict.Undecided found) = ⊤
+IsReadable (verdict.RefusedSpectrum found) = ⊤
 IsReadable (verdict.Survivor found) = ⊤
 
 -- A right verdict on the array, where these tests are selected. What a right verdict says stands in specs/Verdicts.antt of
@@ -54,6 +55,7 @@ pub record IsJudged (a : Entries) (tests : List Test) (verdict : Verdict) : Type
 abbrev pub status_of : Verdict → Status
 status_of (verdict.Infeasible found) = Infeasible
 status_of (verdict.Undecided found) = Undecided
+status_of (verdict.RefusedSpectrum found) = RefusedSpectrum
 status_of (verdict.Survivor found) = Survivor
 
 -- The bytes are the text of an array. It is judged, and this is the status of the verdict and the text of its report.

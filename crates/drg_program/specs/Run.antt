@@ -16,7 +16,7 @@ use Rattle.drg_program.specs.declared.output.Output.{Output}
 use Rattle.drg_program.specs.declared.output.EarlyRefusal.{EarlyRefusal}
 use Rattle.drg_program.specs.declared.output.EarlyRefusal.TheVariants as refusal
 use Rattle.drg_program.specs.declared.status.Status.{Status}
-use Rattle.drg_program.specs.declared.status.Status.TheVariants.{Survivor, Infeasible, Undecided, Accepted, Rejected, Usage, BadInput, TooLong, OpenFault, ReadFault, WriteFault, Memory}
+use Rattle.drg_program.specs.declared.status.Status.TheVariants.{Survivor, Infeasible, RefusedSpectrum, Undecided, Accepted, Rejected, Usage, BadInput, TooLong, OpenFault, ReadFault, WriteFault, Memory}
 
 -- the bytes are in the grammar of the command's input
 abbrev pub IsInGrammar : Command → List ℕ → Type 0
@@ -40,6 +40,7 @@ IsOutput (Graph file) bytes status text = AnswersGraph bytes status text
 abbrev pub IsAnswerOf : Status → Command → Type 0
 IsAnswerOf Survivor (Check tests file) = ⊤
 IsAnswerOf Infeasible (Check tests file) = ⊤
+IsAnswerOf RefusedSpectrum (Check tests file) = ⊤
 IsAnswerOf Undecided (Check tests file) = ⊤
 IsAnswerOf Accepted (Replay file) = ⊤
 IsAnswerOf Rejected (Replay file) = ⊤

@@ -84,6 +84,7 @@ fn status_of(verdict: &Verdict) -> Status
     match verdict {
         Verdict::Infeasible(_) => Status::Infeasible,
         Verdict::Undecided(_) => Status::Undecided,
+        Verdict::RefusedSpectrum(_) => Status::RefusedSpectrum,
         Verdict::Survivor(_) => Status::Survivor,
     }
 }

@@ -11,7 +11,7 @@ pub enum Status {
     /// The array fails a test, and the report derives it.
     Infeasible,
     /// A test can't be decided, since the eigenvalues don't lie in one quadratic field, and no other
-    /// test is found false. No command answers it yet.
+    /// test is found false.
     RefusedSpectrum,
     /// A number on which the answer rests is too wide to be computed: a size or an intersection number
     /// of the array, or a work number of a line of the derivation.

@@ -46,10 +46,11 @@ module _ {A V : Type 0} (value : A → V) (operations : ℕ → Operations V) (t
   abbrev pub row_line : Row → List ℕ
   row_line row = row_word row ++ values_text row (suc (diameter_of t)) ++ codes "\n"
 
-  -- the lines of the first m rows of P, and of Q
+  -- the lines of the first m rows of P
   abbrev pub eigen_lines : ℕ → List ℕ
   eigen_lines m = pieces (λ i. row_line (Eigen i)) m
 
+  -- the lines of the first m rows of Q
   abbrev pub dual_lines : ℕ → List ℕ
   dual_lines m = pieces (λ r. row_line (Dual r)) m
 

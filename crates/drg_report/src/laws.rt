@@ -2,7 +2,7 @@
 
 ghost use Rattle.drg_report.specs.Laws.{TextTellsKind};
 
-/// The text of a report tells whether its verdict is infeasible, undecided or a survivor.
+/// The text of a report tells whether its verdict is infeasible, undecided, refused or a survivor.
 pub fn kind_law()
     ensures { TextTellsKind }
 {}

@@ -66,6 +66,7 @@ fn spectra_of(alloc: Global, array: &Array, numbers: &Numbers) -> Result<Option<
 
 /// The certificate of an array, where no one quadratic field holds its eigenvalues.
 fn other_of(alloc: Global, array: &Array) -> Result<Option<OtherSpectrum>, Fail> {
+    array.known_valid();
     let poly = characteristic(alloc, array)?;
     match split_of(alloc, &poly, array.valency())? {
         Split::Spectrum(_spectrum) => Ok(None),
