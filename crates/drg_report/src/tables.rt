@@ -7,8 +7,8 @@ ghost use Rattle.drg_report.specs.Pieces.{spaced};
 ghost use Rattle.drg_report.specs.Words.{field_text};
 ghost use Rattle.drg_report.specs.SpectralTexts.{IsRowOf, dual_lines, eigen_lines, frame_lines, root_line, row_line, row_value, row_word, spectra_lines, values_text};
 
-use crate::words::write_value;
 use crate::Spectra;
+use crate::words::write_value;
 use drg_fraction::Field;
 use drg_matrices::Frame;
 use itoa::Buffer;
@@ -18,12 +18,8 @@ use std::alloc::AllocError;
 #[derive(Clone, Copy)]
 pub(crate) enum Row {
     Thetas,
-    Eigen {
-        i: usize,
-    },
-    Dual {
-        r: usize,
-    },
+    Eigen { i: usize },
+    Dual { r: usize },
 }
 
 impl Row {
@@ -121,11 +117,7 @@ fn write_dual_lines<F: Field>(frame: &Frame<F>, out: &mut Vec<u8>) -> Result<(),
 }
 
 /// Appends the line of a row.
-fn write_row_line<F: Field>(
-    frame: &Frame<F>,
-    row: Row,
-    out: &mut Vec<u8>,
-) -> Result<(), AllocError>
+fn write_row_line<F: Field>(frame: &Frame<F>, row: Row, out: &mut Vec<u8>) -> Result<(), AllocError>
     requires { IsRowOf (diameter_of frame.now) row }
     ensures ok { OnOk result
         (out.new.items ≡ out.old.items ++ row_line F.value F.operations frame.now row) }
@@ -138,11 +130,7 @@ fn write_row_line<F: Field>(
 }
 
 /// Appends the values of a row, with one space before each.
-fn write_values<F: Field>(
-    frame: &Frame<F>,
-    row: Row,
-    out: &mut Vec<u8>,
-) -> Result<(), AllocError>
+fn write_values<F: Field>(frame: &Frame<F>, row: Row, out: &mut Vec<u8>) -> Result<(), AllocError>
     requires { IsRowOf (diameter_of frame.now) row }
     ensures ok { OnOk result (out.new.items
         ≡ out.old.items ++ values_text F.value F.operations frame.now row (suc (diameter_of frame.now))) }

@@ -1,4 +1,4 @@
-use Rattle.std.proofs.Common.{ℤ, List, ◌++◌, ap, sym, ◌∙◌, append_assoc}
+use Rattle.std.proofs.Common.{ap, sym, ◌∙◌, append_assoc}
 use Rattle.std.specs.Prelude.{codes}
 use Rattle.drg_algebra.proofs.Beginnings.{begins}
 use Rattle.drg_report.specs.Certificates.{coefficients_text, poly_line}

@@ -1,4 +1,4 @@
-use Rattle.std.proofs.Common.{◌≡◌, ℕ, List, [], ◌++◌, suc, refl, sym, ap, ◌∙◌, subst, append_assoc, append-nil}
+use Rattle.std.proofs.Common.{ℕ, [], ◌++◌, suc, refl, sym, ap, ◌∙◌, subst, append_assoc, append-nil}
 use Rattle.drg_algebra.specs.Beginnings.{BeginsWith}
 use Rattle.drg_algebra.proofs.Beginnings.{begins, begins_last}
 use Rattle.drg_matrices.specs.Tables.{diameter_of, root_of_tables}

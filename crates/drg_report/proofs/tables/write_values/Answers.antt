@@ -1,4 +1,4 @@
-use Rattle.std.proofs.Common.{◌≡◌, ℕ, List, ◌++◌, ◌+◌, ◌<◌, suc, sym, ap, ap₂, ◌∙◌, subst, arith}
+use Rattle.std.proofs.Common.{◌≡◌, ℕ, List, ◌++◌, ◌+◌, ◌<◌, suc, ap, ap₂, ◌∙◌, subst, arith}
 use Rattle.drg_algebra.specs.Beginnings.{BeginsWith}
 use Rattle.drg_matrices.specs.Tables.{diameter_of, root_of_tables}
 use Rattle.drg_report.specs.Pieces.{spaced}
