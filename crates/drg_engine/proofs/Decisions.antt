@@ -24,8 +24,8 @@ use Rattle.drg_report.specs.declared.verdict.Verdict.{Verdict}
 use Rattle.drg_report.specs.declared.verdict.Verdict.TheVariants as verdict
 use Rattle.drg_engine.specs.Conditions.{Fails, IsBuilt}
 use Rattle.drg_engine.specs.Laws.{FailingTestsDontHold, IsDecided, IsOpenAt, NoneIsWide, ShowsFailure, UnfailedTestsHold}
-use Rattle.drg_engine.specs.Lines.{AreLinesOf}
-use Rattle.drg_engine.specs.Made.{AreMade}
+use Rattle.drg_evidence.specs.Lines.{AreLinesOf}
+use Rattle.drg_evidence.specs.Made.{AreMade}
 use Rattle.drg_engine.specs.Selections.{AreTests, IsEarlier, Runs, RunsBefore}
 use Rattle.drg_engine.specs.Verdicts.{IsFirstFailing, IsInfeasible, IsNodeOf, IsSurvivor, IsUndecided, IsWideEntry, VerdictHolds}
 use Rattle.drg_engine.proofs.BuiltTests.{counts_fail}

@@ -1,13 +1,6 @@
-pub mod StepTests
-pub mod SizeLines
-pub mod RowLines
-pub mod TakenLines
-pub mod Closings
-pub mod Acceptance
-pub mod Texts
+pub mod Evidence
 pub mod BuiltTests
 pub mod TestOrder
 pub mod ClaimFacts
 pub mod Decisions
 pub mod OneReport
-pub mod LineLists

@@ -32,7 +32,7 @@ use Rattle.drg_report.specs.declared.verdict.Verdict.{Verdict}
 use Rattle.drg_report.specs.declared.verdict.Verdict.TheVariants as verdict
 use Rattle.drg_engine.specs.Conditions.{Fails, IsBuilt}
 use Rattle.drg_engine.specs.Laws.{FailingTestsDontHold, HaveOneReport}
-use Rattle.drg_engine.specs.Lines.{AreLinesOf, AreRowLines, AreSizesAndRows, IsRowLine, IsSizeLine}
+use Rattle.drg_evidence.specs.Lines.{AreLinesOf, AreRowLines, AreSizesAndRows, IsRowLine, IsSizeLine}
 use Rattle.drg_engine.specs.Selections.{AreTests, IsAscending, IsEarlier, Runs, RunsBefore}
 use Rattle.drg_engine.specs.Verdicts.{IsFirstFailing, IsInfeasible, IsNodeOf, IsSurvivor, IsUndecided, VerdictHolds}
 use Rattle.drg_engine.proofs.BuiltTests.{either}

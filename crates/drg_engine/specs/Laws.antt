@@ -15,8 +15,8 @@ use Rattle.drg_report.specs.Texts.{report_text}
 use Rattle.drg_report.specs.declared.verdict.Verdict.{Verdict}
 use Rattle.drg_report.specs.declared.verdict.Verdict.TheVariants.{Infeasible, Undecided, Survivor}
 use Rattle.drg_engine.specs.Conditions.{Fails, Holds, IsBuilt}
-use Rattle.drg_engine.specs.Lines.{AreLinesOf}
-use Rattle.drg_engine.specs.Made.{AreMade}
+use Rattle.drg_evidence.specs.Lines.{AreLinesOf}
+use Rattle.drg_evidence.specs.Made.{AreMade}
 use Rattle.drg_engine.specs.Selections.{Runs}
 use Rattle.drg_engine.specs.Verdicts.{IsWideEntry, VerdictHolds}
 

@@ -1,7 +1,5 @@
 pub mod Conditions
 pub mod Selections
 pub mod Courses
-pub mod Lines
-pub mod Made
 pub mod Verdicts
 pub mod Laws

@@ -22,8 +22,8 @@ use Rattle.drg_report.specs.declared.verdict.Verdict.{Verdict}
 use Rattle.drg_report.specs.declared.verdict.Verdict.TheVariants as verdict
 use Rattle.drg_engine.specs.Conditions.{Holds, Fails}
 use Rattle.drg_engine.specs.Selections.{AreTests, Runs, RunsBefore}
-use Rattle.drg_engine.specs.Lines.{AreLinesOf}
-use Rattle.drg_engine.specs.Made.{AreMade}
+use Rattle.drg_evidence.specs.Lines.{AreLinesOf}
+use Rattle.drg_evidence.specs.Made.{AreMade}
 
 -- the array fails the claim, a claim of a test that runs, and no such claim that comes before it
 pub record IsFirstFailing (a : Entries) (tests : List Test) (claim : Claim) : Type 0 where

@@ -11,16 +11,16 @@ ghost use Rattle.drg_intersection.specs.Faults.{AllPass, IsFirstWide, IsNode};
 ghost use Rattle.drg_intersection.specs.Numbers.{AreNumbersOf};
 ghost use Rattle.drg_engine.specs.Conditions.{Fails, IsBuilt};
 ghost use Rattle.drg_engine.specs.Courses.{IsCourse};
-ghost use Rattle.drg_engine.specs.Lines.{AreLinesOf};
-ghost use Rattle.drg_engine.specs.Made.{AreMade};
+ghost use Rattle.drg_evidence.specs.Lines.{AreLinesOf};
+ghost use Rattle.drg_evidence.specs.Made.{AreMade};
 ghost use Rattle.drg_engine.specs.Verdicts.{IsFirstFailing, IsNodeOf, VerdictHolds};
 
 use crate::course::Course;
-use crate::lines::lines_of;
 use crate::{acceptance_law, built_law, text_law};
 use drg_array::{Array, Claim, Node, Test, TestSet};
 use drg_counting::{basic, parity};
 use drg_derivation::{Derivation, Line};
+use drg_evidence::count_lines;
 use drg_graph::counting_claims_law;
 use drg_intersection::{Numbers, NumbersFault, numbers_or_before};
 use drg_report::{Cause, Infeasible, Pending, PendingTests, Survivor, Undecided, Verdict};
@@ -41,7 +41,7 @@ pub fn judge(alloc: Global, array: &Array, tests: &TestSet) -> Result<Verdict, A
         Ok(numbers) => judge_numbers(alloc, array, tests, numbers, course),
         Err(shortfall) => match shortfall.fault {
             NumbersFault::Fall { claim } => {
-                let lines = lines_of(alloc, claim, &shortfall.before)?;
+                let lines = count_lines(alloc, claim, &shortfall.before)?;
                 Ok(infeasible_by(array, claim, lines, course.pending))
             }
             NumbersFault::Wide { node } => undecided_by(node, tests, course),
@@ -69,7 +69,7 @@ fn judge_numbers(
     built_law();
     course.pass_up_to(Test::Intersect, tests)?;
     if let Some(claim) = parity(&numbers, tests) {
-        let lines = lines_of(alloc, claim, numbers.first())?;
+        let lines = count_lines(alloc, claim, numbers.first())?;
         return Ok(infeasible_by(array, claim, lines, course.pending));
     }
     course.pass_up_to(Test::Triangles, tests)?;

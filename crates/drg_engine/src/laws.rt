@@ -3,6 +3,7 @@
 ghost use Rattle.drg_engine.specs.Laws.{AcceptanceLaw, CompletenessLaw, FailingTestsDontHold, OneReportLaw, SelectedTestsRun, TextLaw, UnfailedTestsHold, WideLaw};
 
 use drg_array::{claim_law, condition_law};
+use drg_evidence::counts_law;
 use drg_intersection::fault_law;
 
 /// A test that is built holds exactly where no claim of it fails, and each selected test runs.
@@ -18,12 +19,16 @@ pub fn built_law()
 /// class of the claim.
 pub fn acceptance_law()
     ensures { AcceptanceLaw }
-{}
+{
+    counts_law();
+}
 
 /// And it has a text.
 pub fn text_law()
     ensures { TextLaw }
-{}
+{
+    counts_law();
+}
 
 /// Where no number is too wide, a right verdict decides: it is infeasible where a test that runs
 /// doesn't hold, and else a survivor.

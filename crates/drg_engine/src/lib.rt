@@ -3,7 +3,7 @@
 //!
 //! The tests that are built and their conditions stand in `specs/Conditions.antt`, which of them
 //! run in `specs/Selections.antt`, and what it is for a verdict to be right in
-//! `specs/Verdicts.antt`. Which lines a derivation has is said in `specs/Lines.antt`.
+//! `specs/Verdicts.antt`. Which lines a derivation has is said in `drg_evidence`.
 //! `specs/Laws.antt` has the laws: a right verdict decides where no number is too wide and says so
 //! where one is, and two right verdicts on an array have one text. That a derivation with these
 //! lines is accepted by the replayer is proved, and not looked at when the program runs.
@@ -12,7 +12,6 @@
 mod course;
 mod judging;
 mod laws;
-mod lines;
 
 pub use judging::judge;
 pub use laws::{acceptance_law, built_law, completeness_law, one_report_law, text_law, wide_law};

@@ -1,5 +1,5 @@
-use Rattle.drg_engine.proofs.Acceptance.{acceptance}
+use Rattle.drg_engine.proofs.Evidence.{by_counts}
 use Rattle.drg_engine.proofs.laws.acceptance_law.Goals as goal
 
 pub returns : goal.returns
-returns c = acceptance
+returns c = λ derivation shows. c.counts_law.ensures.accepted derivation (by_counts derivation shows)

@@ -22,8 +22,8 @@ use Rattle.drg_replay.specs.Sizes as sizes
 use Rattle.drg_replay.specs.Claims.{size_closing, intersect_closing, handshake_closing, induced_closing, triangles_closing}
 use Rattle.drg_whole.proofs.Residues.{of_residue}
 use Rattle.drg_replay.proofs.StepLaws.{is_same, are_same}
-use Rattle.drg_engine.proofs.StepTests.{at_most, one, in_the_range}
-use Rattle.drg_engine.proofs.RowLines.{AreStated, meet, sum_passes}
+use Rattle.drg_evidence.proofs.StepTests.{at_most, one, in_the_range}
+use Rattle.drg_evidence.proofs.RowLines.{AreStated, meet, sum_passes}
 
 -- ---- divisibility
 multiple : (m : ℕ) (z : ℤ) → 0 < m → residue m z ≡ 0 → IsMultiple m z

@@ -19,7 +19,7 @@ use Rattle.drg_whole.specs.Sums.{products_of}
 use Rattle.drg_replay.specs.Rows.{entry, entry_before, entry_above, b_before, balance, balance_sum, balance_fits, balances_from, row_steps}
 use Rattle.drg_replay.proofs.StepLaws.{are_same}
 use Rattle.drg_replay.proofs.RowLaws.{start_entry, entry_front, entry_end, length_more}
-use Rattle.drg_engine.proofs.StepTests.{at_most, above, same_whole, sum_in_range}
+use Rattle.drg_evidence.proofs.StepTests.{at_most, above, same_whole, sum_in_range}
 
 -- the rows of h state the numbers q
 pub record AreStated (a : Entries) (h : ℕ) (q : ℕ → ℕ → ℚ) (rows : List (List ℤ)) : Type 0 where

@@ -6,7 +6,7 @@ use Rattle.std.proofs.lemmas.Int.{ints, unsigned_abs-mul}
 use Rattle.std.proofs.lemmas.List.{reverse-reverse}
 use Rattle.drg_algebra.proofs.Tests.{both}
 use Rattle.drg_array.specs.Entries.{Entries, IsArray, diameter, c_at}
-use Rattle.drg_array.specs.Claims.{test_of, class_of}
+use Rattle.drg_array.specs.Claims.{class_of}
 use Rattle.drg_array.specs.declared.claim.Claim.{Claim}
 use Rattle.drg_array.specs.declared.claim.Claim.TheVariants.{First, Degree, Order, Cross, Size, Intersect, Handshake, Induced, Triangles}
 use Rattle.drg_array.specs.declared.claim.Class.TheVariants.{Counting}
@@ -34,10 +34,10 @@ use Rattle.drg_replay.proofs.Soundness.{above_zero}
 use Rattle.drg_replay.proofs.ProgressLaws.{accepted, all_are_met, array_stays}
 use Rattle.drg_replay.proofs.RootLaws.{root_found}
 use Rattle.drg_replay.proofs.StepLaws.{each_holds, at_most, is_less, is_same, is_whole_same}
-use Rattle.drg_engine.specs.Conditions.{Fails, IsBuilt}
-use Rattle.drg_engine.specs.Laws.{TextLaw}
-use Rattle.drg_engine.proofs.TakenLines.{onto, all_onto}
-use Rattle.drg_engine.proofs.Acceptance.{answer_is}
+use Rattle.drg_array.specs.Conditions.{CountsFail}
+use Rattle.drg_evidence.specs.Laws.{CountsHaveText}
+use Rattle.drg_evidence.proofs.TakenLines.{onto, all_onto}
+use Rattle.drg_evidence.proofs.Acceptance.{answer_is}
 
 -- ---- numbers that can be written
 times_more : (n c : ℕ) → 1 ≤ c → n ≤ n * c
@@ -137,44 +137,44 @@ all_short a (Frame root ∷ lines) all = ((all.0, tt), all_short a lines all.1)
 all_short a (line ∷ lines) all = absurd all.0
 
 -- ---- the claim
-small : (a : Entries) (claim : Claim) → IsArray a → IsBuilt (test_of claim) → Fails a claim → IsClaim claim
-small a First array built fails = tt
-small a (Degree i) array built fails = let short = array.short in let h = fails.0.1 in (omega arith, tt)
-small a (Order i) array built fails = let short = array.short in let h = fails.1 in (omega arith, tt)
-small a (Cross i j) array built fails = let short = array.short in let h = fails.1 in (omega arith, (omega arith, tt))
-small a (Size i) array built fails = let short = array.short in let h = fails.0.1 in (omega arith, tt)
-small a (Intersect h i j) array built fails =
+small : (a : Entries) (claim : Claim) → IsArray a → CountsFail a claim → IsClaim claim
+small a First array fails = tt
+small a (Degree i) array fails = let short = array.short in let h = fails.0.1 in (omega arith, tt)
+small a (Order i) array fails = let short = array.short in let h = fails.1 in (omega arith, tt)
+small a (Cross i j) array fails = let short = array.short in let h = fails.1 in (omega arith, (omega arith, tt))
+small a (Size i) array fails = let short = array.short in let h = fails.0.1 in (omega arith, tt)
+small a (Intersect h i j) array fails =
     let short = array.short in let hh = fails.0 in let hi = fails.1 in let hj = fails.2 in (omega arith, (omega arith, (omega arith, tt)))
-small a (Handshake i) array built fails = let short = array.short in let h = fails.0.1 in (omega arith, tt)
-small a (Induced i j) array built fails = let short = array.short in let h = fails.0.1 in let k = fails.1.1 in (omega arith, (omega arith, tt))
-small a (Triangles i) array built fails = let short = array.short in let h = fails.0.1 in (omega arith, tt)
-small a claim array built fails = absurd built
+small a (Handshake i) array fails = let short = array.short in let h = fails.0.1 in (omega arith, tt)
+small a (Induced i j) array fails = let short = array.short in let h = fails.0.1 in let k = fails.1.1 in (omega arith, (omega arith, tt))
+small a (Triangles i) array fails = let short = array.short in let h = fails.0.1 in (omega arith, tt)
+small a claim array fails = absurd fails
 
--- the tests that are built are of the class Counting
-counts : (claim : Claim) → IsBuilt (test_of claim) → is_spectral (class_of claim) ≡ false
-counts First built = refl
-counts (Degree i) built = refl
-counts (Order i) built = refl
-counts (Cross i j) built = refl
-counts (Size i) built = refl
-counts (Intersect h i j) built = refl
-counts (Handshake i) built = refl
-counts (Induced i j) built = refl
-counts (Triangles i) built = refl
-counts claim built = absurd built
+-- the claims on counts are of the class Counting
+counts : (a : Entries) (claim : Claim) → CountsFail a claim → is_spectral (class_of claim) ≡ false
+counts a First fails = refl
+counts a (Degree i) fails = refl
+counts a (Order i) fails = refl
+counts a (Cross i j) fails = refl
+counts a (Size i) fails = refl
+counts a (Intersect h i j) fails = refl
+counts a (Handshake i) fails = refl
+counts a (Induced i j) fails = refl
+counts a (Triangles i) fails = refl
+counts a claim fails = absurd fails
 
-pub has_text : TextLaw
-has_text derivation shows =
+pub counts_have_text : CountsHaveText
+counts_have_text derivation shows =
     let a = derivation.array in
     let claim = derivation.claim in
     let lines = reverse derivation.lines in
-    let answer = answer_is a claim derivation.lines shows.array shows.built shows.fails shows.made shows.lines in
+    let answer = answer_is a claim derivation.lines shows.array shows.fails shows.made shows.lines in
     let end = accepted (progress_of a claim lines) Counting (length lines + 4) answer in
     let met = (all_are_met a claim lines end.known end.all_met).0 in
-    let all = all_back (CanStand a) derivation.lines (all_stand a claim shows.array (counts claim shows.built) lines met) in
+    let all = all_back (CanStand a) derivation.lines (all_stand a claim shows.array (counts a claim shows.fails) lines met) in
     record {
       array = shows.array;
-      claim = small a claim shows.array shows.built shows.fails;
+      claim = small a claim shows.array shows.fails;
       evidence = evidence a (context_of a) derivation.lines refl (omega arith) all;
       short = all_short a derivation.lines all;
     }

@@ -2,8 +2,8 @@ use Rattle.std.proofs.Common.{rules, arith, ◌≡◌, sym, subst, ◌∙◌}
 use Rattle.std.proofs.lemmas.Int.{to_z_pos, to_z-of_z}
 use mir.Syntax.{w128}
 use Rattle.drg_intersection.specs.FirstNumbers.{IsRowOf}
-use Rattle.drg_engine.proofs.LineLists.{row_is}
-use Rattle.drg_engine.proofs.lines.row_line.Goals as goal
+use Rattle.drg_evidence.proofs.LineLists.{row_is}
+use Rattle.drg_evidence.proofs.counts.row_line.Goals as goal
 
 pub returns : goal.returns
 returns c = λ a are.

@@ -54,13 +54,17 @@ AreLinesOf a (Induced i j) lines = AreSizesAndRows a i i lines
 AreLinesOf a (Triangles i) lines = AreSizesAndRows a i i lines
 AreLinesOf a claim lines = ⊥
 
--- The numbers that the lines of the claim state are there, and its indices are those of an array of
--- this diameter.
+-- The claim is one on counts, the numbers that its lines state are there, and its indices are those
+-- of an array of this diameter.
 abbrev pub HasNumbersOf : FirstNumbers → Claim → Type 0
+HasNumbersOf first First = Unit {0}
+HasNumbersOf first (Degree i) = Unit {0}
+HasNumbersOf first (Order i) = Unit {0}
+HasNumbersOf first (Cross i j) = Unit {0}
 HasNumbersOf first (Size i) = i ≤ length first.sizes
 HasNumbersOf first (Intersect h i j) =
     (h ≤ first.d) × (1 ≤ i) × (i ≤ first.d) × (place first.d h i 0 ≤ length first.table)
 HasNumbersOf first (Handshake i) = IsFull first
 HasNumbersOf first (Induced i j) = (i ≤ first.d) × IsFull first
 HasNumbersOf first (Triangles i) = (i ≤ first.d) × IsFull first
-HasNumbersOf first claim = Unit {0}
+HasNumbersOf first claim = ⊥

@@ -14,7 +14,7 @@ use Rattle.drg_intersection.proofs.SizeLaws.{dividend}
 use Rattle.drg_replay.specs.Steps.{EachHolds}
 use Rattle.drg_whole.specs.Range.{in_range}
 use Rattle.drg_replay.specs.Sizes.{sizes_from, size_steps}
-use Rattle.drg_engine.proofs.StepTests.{at_most, same_whole, in_the_range}
+use Rattle.drg_evidence.proofs.StepTests.{at_most, same_whole, in_the_range}
 
 -- k_(n+1) after k_n, which is `last`
 record SizeStep (a : Entries) (n : ℕ) (last value : ℤ) : Type 0 where

@@ -1,7 +1,7 @@
 use Rattle.std.proofs.Common.{arith, ◌≡◌, suc, ◌+◌, ◌-◌, [], ◌∷◌, ◌++◌, subst, sym}
-use Rattle.drg_engine.specs.Lines.{AreRowLines, IsRowLine}
-use Rattle.drg_engine.proofs.LineLists.{items_push, rows_push}
-use Rattle.drg_engine.proofs.lines.push_rows.Goals as goal
+use Rattle.drg_evidence.specs.Lines.{AreRowLines, IsRowLine}
+use Rattle.drg_evidence.proofs.LineLists.{items_push, rows_push}
+use Rattle.drg_evidence.proofs.counts.push_rows.Goals as goal
 
 pub rows-preserved : goal.rows-preserved
 rows-preserved c = λ a are.

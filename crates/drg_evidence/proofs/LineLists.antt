@@ -9,7 +9,7 @@ use Rattle.drg_intersection.specs.Numbers.{place}
 use Rattle.drg_intersection.proofs.Places.{before_row}
 use Rattle.drg_array.specs.declared.claim.Claim.TheVariants.{Intersect}
 use Rattle.drg_derivation.specs.declared.line.Line.{Line}
-use Rattle.drg_engine.specs.Lines.{AreLinesOf, AreRowLines, IsRowLine}
+use Rattle.drg_evidence.specs.Lines.{AreLinesOf, AreRowLines, IsRowLine}
 
 -- ---- a row of the numbers in hand is a row of the array
 pub row_is : (a : Entries) (first : FirstNumbers) (h i : ℕ) (row : List ℤ) → h ≤ first.d → i ≤ first.d → HasRow first h i → IsRowOf first h i row → AreFirstNumbers a first

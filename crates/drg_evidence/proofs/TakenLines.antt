@@ -25,9 +25,9 @@ use Rattle.drg_replay.specs.Claims.{claim_is_met, closing_of, closing_steps}
 use Rattle.drg_replay.specs.Answers.{progress_of, answer_after}
 use Rattle.drg_replay.proofs.ProgressLaws.{array_stays, claim_stays}
 use Rattle.drg_replay.proofs.RowLaws.{no_rows_at, length_more}
-use Rattle.drg_engine.specs.Lines.{AreRowLines}
-use Rattle.drg_engine.proofs.StepTests.{none_fails}
-use Rattle.drg_engine.proofs.RowLines.{AreStated, row_holds, row_stated}
+use Rattle.drg_evidence.specs.Lines.{AreRowLines}
+use Rattle.drg_evidence.proofs.StepTests.{none_fails}
+use Rattle.drg_evidence.proofs.RowLines.{AreStated, row_holds, row_stated}
 
 -- the lines in front of those after them, so that the last comes first
 abbrev pub onto : List Line → List Line → List Line

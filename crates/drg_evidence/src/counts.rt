@@ -1,22 +1,24 @@
-//! The evidence lines of a claim, from the numbers in hand.
+//! The evidence lines of a claim on counts, from the numbers in hand.
 
 ghost use Rattle.std.specs.Prelude.{◌≡◌, ◌≤◌, ◌-◌, suc, List, [], ◌∷◌, ◌++◌, length, IfOk, OnOk};
-ghost use Rattle.drg_array.specs.Claims.{test_of};
 ghost use Rattle.drg_array.specs.Entries.{Entries};
 ghost use Rattle.drg_derivation.specs.declared.line.Line.{Line as TheLine};
 ghost use Rattle.drg_intersection.specs.FirstNumbers.{AreFirstNumbers, HasRow, IsFull};
 ghost use Rattle.drg_intersection.specs.Numbers.{place};
-ghost use Rattle.drg_engine.specs.Conditions.{IsBuilt};
-ghost use Rattle.drg_engine.specs.Lines.{AreLinesOf, AreRowLines, AreSizesAndRows, HasNumbersOf, IsRowLine, IsSizeLine};
+ghost use Rattle.drg_evidence.specs.Lines.{AreLinesOf, AreRowLines, AreSizesAndRows, HasNumbersOf, IsRowLine, IsSizeLine};
 
 use drg_array::Claim;
 use drg_derivation::{Line, NumberList};
 use drg_intersection::FirstNumbers;
 use std::alloc::{AllocError, Global};
 
-/// The lines of a derivation of this claim, from numbers that reach as far as it asks.
-pub fn lines_of(alloc: Global, claim: Claim, first: &FirstNumbers) -> Result<Vec<Line>, AllocError>
-    requires built { IsBuilt (test_of claim) }
+/// The lines of a derivation of this claim on counts, from numbers that reach as far as it asks.
+/// The one error is want of memory.
+pub fn count_lines(
+    alloc: Global,
+    claim: Claim,
+    first: &FirstNumbers,
+) -> Result<Vec<Line>, AllocError>
     requires made { HasNumbersOf first.now claim }
     ensures { IfOk result (λ lines. (a : Entries) → AreFirstNumbers a first.now →
         AreLinesOf a claim lines.items) }

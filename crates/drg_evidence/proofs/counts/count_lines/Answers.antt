@@ -2,9 +2,9 @@ use Rattle.std.proofs.Common.{◌-◌, subst, sym}
 use Rattle.std.proofs.lemmas.Result.{IfOk-weaker}
 use Rattle.drg_array.specs.Entries.{Entries}
 use Rattle.drg_intersection.specs.FirstNumbers.{AreFirstNumbers}
-use Rattle.drg_engine.specs.Lines.{AreLinesOf, AreRowLines, HasNumbersOf}
-use Rattle.drg_engine.proofs.LineLists.{lines_of_intersect}
-use Rattle.drg_engine.proofs.lines.lines_of.Goals as goal
+use Rattle.drg_evidence.specs.Lines.{AreLinesOf, AreRowLines, HasNumbersOf}
+use Rattle.drg_evidence.proofs.LineLists.{lines_of_intersect}
+use Rattle.drg_evidence.proofs.counts.count_lines.Goals as goal
 
 pub returns-in-Intersect : goal.returns-in-Intersect
 returns-in-Intersect c =
