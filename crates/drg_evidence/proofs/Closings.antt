@@ -67,10 +67,10 @@ module _ (a : Entries) (array : IsArray a) (values : List ℤ) (are : (i : ℕ) 
       )
 
   module _ (count : length values ≡ suc (diameter a)) where
-    full : sizes.is_full a (Some values) ≡ true
+    pub full : sizes.is_full a (Some values) ≡ true
     full = are_same _ _ (omega (arith, count))
 
-    vertices : vertex_count a ≡ whole (sizes.vertex_count (Some values))
+    pub vertices : vertex_count a ≡ whole (sizes.vertex_count (Some values))
     vertices =
         let P : ℕ → Type 0 = λ n. total (whole (pos 0)) plus n (size a) ≡ whole (sum_from (pos 0) values) in
         subst P count (sym (rationals.plus_nil _) ∙ (rationals.plus_comm _ (whole (pos 0)) ∙ sum_is (size a) values (pos 0) are))

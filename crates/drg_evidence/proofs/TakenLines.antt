@@ -55,7 +55,7 @@ not_above m n h = by (int_le (pos m) (pos n)) refl where
   by true e = refl
   by false e = absurd (omega (arith, ints))
 
-index : (least n limit : ℕ) → least ≤ n → n ≤ limit → is_index least (pos n) limit ≡ true
+pub index : (least n limit : ℕ) → least ≤ n → n ≤ limit → is_index least (pos n) limit ≡ true
 index least n limit low high = and-in _ _ (not_above least n low) (not_above n limit high)
 
 module _ (a : Entries) (claim : Claim) (h : ℕ) where

@@ -72,13 +72,13 @@ cells_short a h rows i j (v ∷ vs) array inside steps =
 
 -- ---- lines that can be written
 -- the line has its count of numbers, and each of them can be written
-abbrev CanStand : Entries → Line → Type 0
+abbrev pub CanStand : Entries → Line → Type 0
 CanStand a (K values) = (1 ≤ length values) × (length values ≤ suc (diameter a)) × AllByRecursion IsShort values
 CanStand a (P h i values) = (length values ≡ suc (diameter a)) × IsShort h × IsShort i × AllByRecursion IsShort values
 CanStand a (Frame root) = IsShort root
 CanStand a line = ⊥
 
-sizes_stand : (a : Entries) (array : IsArray a) (sizes : Option (List ℤ)) (values : List ℤ) → EachHolds (size_steps a sizes values) → CanStand a (K values)
+pub sizes_stand : (a : Entries) (array : IsArray a) (sizes : Option (List ℤ)) (values : List ℤ) → EachHolds (size_steps a sizes values) → CanStand a (K values)
 sizes_stand a array sizes [] h = absurd (let e = h.0 in cc)
 sizes_stand a array sizes (v ∷ vs) h =
     let long = at_most (length vs) (diameter a) h.1.0 in

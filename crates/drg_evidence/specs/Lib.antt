@@ -1,3 +1,5 @@
+pub mod FrameValues
+pub mod FrameLines
 pub mod Lines
 pub mod Made
 pub mod Laws

@@ -4,11 +4,13 @@ use Rattle.drg_algebra.specs.Rational.{whole}
 use Rattle.drg_array.specs.Entries.{Entries, diameter}
 use Rattle.drg_array.specs.Numbers.{size, IsIntersectionNumber}
 use Rattle.drg_array.specs.declared.claim.Claim.{Claim}
-use Rattle.drg_array.specs.declared.claim.Claim.TheVariants.{First, Degree, Order, Cross, Size, Intersect, Handshake, Induced, Triangles}
+use Rattle.drg_array.specs.declared.claim.Claim.TheVariants.{First, Degree, Order, Cross, Size, Intersect, Handshake, Induced, Triangles, Mult}
 use Rattle.drg_derivation.specs.declared.line.Line.{Line}
 use Rattle.drg_intersection.specs.FirstNumbers.{FirstNumbers, IsFull}
 use Rattle.drg_intersection.specs.Numbers.{place}
 use Rattle.drg_derivation.specs.declared.line.Line.TheVariants.{K, P}
+use Rattle.drg_evidence.specs.FrameLines.{frame_lines}
+use Rattle.drg_evidence.specs.FrameValues.{FrameValues, HasFrame}
 
 -- a `k` line with the first m sizes, k_0 to k_(m-1)
 abbrev pub IsSizeLine : Entries → ℕ → Line → Type 0
@@ -38,9 +40,21 @@ AreSizesAndRows a h m [] = ⊥
 AreSizesAndRows a h m (line ∷ lines) =
     IsSizeLine a (suc (diameter a)) line × AreRowLines a h 1 m lines
 
+-- a `k` line with all sizes, and then the lines of the frame
+abbrev pub AreSizesAndFrame : Entries → FrameValues → List Line → Type 0
+AreSizesAndFrame a f [] = ⊥
+AreSizesAndFrame a f (line ∷ lines) =
+    IsSizeLine a (suc (diameter a)) line × (lines ≡ frame_lines (diameter a) f)
+
+-- a `k` line with all sizes, and then the lines of the frame of the array
+pub record AreFullFrame (a : Entries) (lines : List Line) : Type 0 where
+  pub frame : FrameValues
+  pub is : HasFrame a frame
+  pub are : AreSizesAndFrame a frame lines
+
 -- The lines of a derivation of the claim: none where the entries show it; the sizes before k_i for
--- size i; rows 1 to i - 1 of h for intersect h i j; all sizes for handshake; and also rows 1 to i
--- of h = i for induced i j and triangles i.
+-- size i; rows 1 to i - 1 of h for intersect h i j; all sizes for handshake; also rows 1 to i of
+-- h = i for induced i j and triangles i; and all sizes and the frame for mult i.
 abbrev pub AreLinesOf : Entries → Claim → List Line → Type 0
 AreLinesOf a First lines = lines ≡ []
 AreLinesOf a (Degree i) lines = lines ≡ []
@@ -52,6 +66,7 @@ AreLinesOf a (Intersect h (suc i) j) lines = AreRowLines a h 1 i lines
 AreLinesOf a (Handshake i) lines = AreSizesAndRows a i 0 lines
 AreLinesOf a (Induced i j) lines = AreSizesAndRows a i i lines
 AreLinesOf a (Triangles i) lines = AreSizesAndRows a i i lines
+AreLinesOf a (Mult i) lines = AreFullFrame a lines
 AreLinesOf a claim lines = ⊥
 
 -- The claim is one on counts, the numbers that its lines state are there, and its indices are those

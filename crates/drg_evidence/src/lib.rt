@@ -9,4 +9,4 @@ mod counts;
 mod laws;
 
 pub use counts::count_lines;
-pub use laws::counts_law;
+pub use laws::{counts_law, frame_law, mult_law};
