@@ -1,8 +1,10 @@
 -- Lines and numbers that are appended one after the other.
-use Rattle.std.proofs.Common.{◌≡◌, ℕ, zero, suc, ◌+◌, List, [], ◌∷◌, ◌++◌, append_assoc, refl, sym, ap, ◌∙◌, subst, arith, ℤ}
+use Rattle.std.proofs.Common.{◌≡◌, ℕ, zero, suc, ◌+◌, List, [], ◌∷◌, ◌++◌, append_assoc, refl, sym, ap, ◌∙◌, subst, arith, ℤ, pos}
 use Rattle.drg_derivation.specs.declared.line.Line.{Line}
+use Rattle.drg_derivation.specs.declared.line.Line.TheVariants.{Frame}
 use Rattle.drg_quadratic.specs.Values.{Value}
-use Rattle.drg_evidence.specs.FrameLines.{field_numbers, lines_from, row_numbers}
+use Rattle.drg_evidence.specs.FrameLines.{dual_line, eigen_line, field_numbers, frame_lines, lines_from, row_numbers, theta_line}
+use Rattle.drg_evidence.specs.FrameValues.{FrameValues}
 
 lines_more : (line : ℕ → Line) (l n m : ℕ) → m ≡ l + n → lines_from line l (suc n) ≡ lines_from line l n ++ line m ∷ []
 lines_more line l zero m e = let same : m ≡ l = omega arith in rw same refl
@@ -32,3 +34,15 @@ pub row_push : (root : ℕ) (x : ℕ → Value) (n m : ℕ) (before after : List
 row_push root x n m before after other y e same is old new =
     new ∙ (ap (λ ns. ns ++ field_numbers other y) old ∙ (ap (λ ns. row_numbers root x 0 n ++ ns) (ap (λ (r : ℕ). field_numbers r y) same ∙ ap (field_numbers root) is)
     ∙ (sym (row_more root x 0 n n (omega arith)) ∙ (let next : suc n ≡ m = omega arith in ap (row_numbers root x 0) next))))
+
+-- the lines of a frame, kind after kind
+pub frame_push : (d : ℕ) (f : FrameValues) (root : ℤ) → root ≡ pos f.root → (start begun thetas eigens duals : List Line) → begun ≡ start ++ Frame root ∷ []
+    → thetas ≡ begun ++ lines_from (theta_line d f) 0 (suc d) → eigens ≡ thetas ++ lines_from (eigen_line d f) 0 (suc d) → duals ≡ eigens ++ lines_from (dual_line d f) 0 (suc d)
+    → duals ≡ start ++ frame_lines d f
+frame_push d f root e start begun thetas eigens duals first second third fourth =
+    let ts = lines_from (theta_line d f) 0 (suc d) in
+    let ps = lines_from (eigen_line d f) 0 (suc d) in
+    let qs = lines_from (dual_line d f) 0 (suc d) in
+    let head = start ++ Frame (pos f.root) ∷ [] in
+    fourth ∙ ap (λ ls. ls ++ qs) (third ∙ ap (λ ls. ls ++ ps) (second ∙ ap (λ ls. ls ++ ts) (first ∙ ap (λ r. start ++ Frame r ∷ []) e)))
+    ∙ (append_assoc (head ++ ts) ps qs ∙ (append_assoc head ts (ps ++ qs) ∙ append_assoc start (Frame (pos f.root) ∷ []) (ts ++ (ps ++ qs))))

@@ -33,7 +33,11 @@ pub fn count_lines(
 }
 
 /// One line with the sizes `k_0` to `k_(i-1)`.
-fn size_lines(alloc: Global, first: &FirstNumbers, i: usize) -> Result<Vec<Line>, AllocError>
+pub(crate) fn size_lines(
+    alloc: Global,
+    first: &FirstNumbers,
+    i: usize,
+) -> Result<Vec<Line>, AllocError>
     requires { i ≤ length first.now.sizes }
     ensures { IfOk result (λ lines. (a : Entries) → AreFirstNumbers a first.now →
         (line : TheLine) × (lines.items ≡ line ∷ []) × IsSizeLine a i line) }
