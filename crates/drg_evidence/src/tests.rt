@@ -13,9 +13,10 @@ use std::alloc::Global;
 use std::test::Fail;
 
 /// The lines of mult for an array with a spectrum, and none for one without it.
-fn lines_of(alloc: Global, array: &Array) -> Result<Vec<Line>, Fail> {
-    let numbers = numbers_of(alloc, array)?;
-    let poly = characteristic(alloc, array)?;
+fn lines_of(alloc: Global, text: &str) -> Result<Vec<Line>, Fail> {
+    let array = Array::read(text.as_bytes())?;
+    let numbers = numbers_of(alloc, &array)?;
+    let poly = characteristic(alloc, &array)?;
     let Split::Spectrum(spectrum) = split_of(alloc, &poly, array.valency())? else {
         return Ok(Vec::new(alloc));
     };
@@ -23,17 +24,17 @@ fn lines_of(alloc: Global, array: &Array) -> Result<Vec<Line>, Fail> {
         return Ok(Vec::new(alloc));
     }
     if spectrum.root == 0 {
-        let frame = frame_of::<Fraction>(alloc, array, &numbers, &spectrum)?;
+        let frame = frame_of::<Fraction>(alloc, &array, &numbers, &spectrum)?;
         return Ok(mult_lines(alloc, numbers.first(), &frame)?);
     }
-    let frame = frame_of::<Quadratic>(alloc, array, &numbers, &spectrum)?;
+    let frame = frame_of::<Quadratic>(alloc, &array, &numbers, &spectrum)?;
     Ok(mult_lines(alloc, numbers.first(), &frame)?)
 }
 
 /// The derivation of mult i for the array.
 fn derivation(alloc: Global, text: &str, i: u8) -> Result<Option<Derivation>, Fail> {
+    let lines = lines_of(alloc, text)?;
     let array = Array::read(text.as_bytes())?;
-    let lines = lines_of(alloc, &array)?;
     Ok(Derivation::make(array, Claim::Mult { i }, lines))
 }
 
