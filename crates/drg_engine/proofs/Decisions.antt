@@ -1,82 +1,194 @@
 -- When a verdict is right, and what a right verdict decides.
-use Rattle.std.proofs.Common.{◌≡◌, List, [], Ok, refl, sym, ap, subst, ◌∙◌, arith, inl}
+use Rattle.std.proofs.Common.{◌≡◌, ◌≤◌, List, [], ◌∷◌, ◌++◌, Ok, None, Some, refl, sym, ap, subst, ◌∙◌, arith, inl, inr}
+use Rattle.std.specs.Prelude.{◌⊎◌, Contains, ⊤}
+use Rattle.std.proofs.lemmas.List.Elements.{Contains-push_cases}
 use Rattle.drg_array.specs.Entries.{Entries, IsArray}
+use Rattle.drg_array.specs.ClaimOrder.{test_number, ComesBefore}
 use Rattle.drg_array.specs.Claims.{class_of, test_of}
 use Rattle.drg_array.specs.declared.claim.Claim.{Claim}
-use Rattle.drg_array.specs.declared.claim.Claim.TheVariants.{First, Degree, Order, Cross, Size, Intersect, Handshake, Induced, Triangles}
-use Rattle.drg_array.specs.declared.node.Node.{Node}
-use Rattle.drg_array.specs.declared.node.Node.TheVariants.{P}
 use Rattle.drg_array.specs.declared.test.Test.{Test}
 use Rattle.drg_array.specs.declared.test.Test.TheVariants as test
-use Rattle.drg_counting.specs.EntryTests.{IsBasic}
+use Rattle.drg_array.specs.declared.node.Node.{Node}
 use Rattle.drg_derivation.specs.Content.{Content}
 use Rattle.drg_derivation.specs.declared.line.Line.{Line}
-use Rattle.drg_graph.specs.NumberLaws.{CountingClaimsLaw}
-use Rattle.drg_intersection.specs.Faults.{AllPass, IsFirstWide, IsNumbersFault}
-use Rattle.drg_intersection.specs.Laws.{OneFault, NoFaultWhereAllPass}
-use Rattle.drg_intersection.specs.declared.fault.NumbersFault.TheVariants as fault
-use Rattle.drg_intersection.specs.Numbers.{AreNumbersOf}
-use Rattle.drg_replay.specs.Answers.{answer_of}
-use Rattle.drg_report.specs.declared.verdict.Infeasible.{Infeasible}
-use Rattle.drg_report.specs.declared.verdict.Undecided.{Undecided}
-use Rattle.drg_report.specs.declared.verdict.Survivor.{Survivor}
-use Rattle.drg_report.specs.declared.verdict.Verdict.{Verdict}
-use Rattle.drg_report.specs.declared.verdict.Verdict.TheVariants as verdict
-use Rattle.drg_engine.specs.Conditions.{Fails, IsBuilt}
-use Rattle.drg_engine.specs.Laws.{FailingTestsDontHold, IsDecided, IsOpenAt, NoneIsWide, ShowsFailure, UnfailedTestsHold}
+use Rattle.drg_eigen.specs.declared.split.OtherSpectrum.{OtherSpectrum}
+use Rattle.drg_evidence.specs.FrameValues.{FrameValues, HasFrame}
 use Rattle.drg_evidence.specs.Lines.{AreLinesOf}
 use Rattle.drg_evidence.specs.Made.{AreMade}
+use Rattle.drg_graph.specs.NumberLaws.{CountingClaimsLaw}
+use Rattle.drg_intersection.specs.Faults.{AllPass, IsFirstWide}
+use Rattle.drg_intersection.specs.Numbers.{AreNumbersOf}
+use Rattle.drg_replay.specs.Answers.{answer_of}
+use Rattle.drg_report.specs.declared.verdict.Cause.{Cause}
+use Rattle.drg_report.specs.declared.verdict.Cause.TheVariants.{Wide, Spectrum}
+use Rattle.drg_report.specs.declared.verdict.Pending.{Pending}
+use Rattle.drg_report.specs.declared.verdict.Infeasible.{Infeasible}
+use Rattle.drg_report.specs.declared.verdict.Undecided.{Undecided}
+use Rattle.drg_report.specs.declared.verdict.RefusedSpectrum.{RefusedSpectrum}
+use Rattle.drg_report.specs.declared.verdict.Spectra.{Spectra}
+use Rattle.drg_report.specs.declared.verdict.Spectra.TheVariants.{Rational, Quadratic}
+use Rattle.drg_report.specs.declared.verdict.Survivor.{Survivor}
+use Rattle.drg_engine.specs.Causes.{IsCause, IsDecidable, IsSpectral}
+use Rattle.drg_engine.specs.Conditions.{Fails}
+use Rattle.drg_engine.specs.Courses.{ComesFirst, NoneFailsWithin, RunsWithin}
+use Rattle.drg_engine.specs.Found.{AllAreSpectrum, AreFound, IsCertificate, IsPassed, SomeIsSpectrum, SomeIsWide}
+use Rattle.drg_engine.specs.Frames.{HasOtherSpectrum, IsFirstTooWide, IsFrameReached}
+use Rattle.drg_engine.specs.Laws.{HasFrameFor, ShowsFailure, UnfailedTestsHold}
 use Rattle.drg_engine.specs.Selections.{AreTests, IsEarlier, Runs, RunsBefore}
-use Rattle.drg_engine.specs.Verdicts.{IsFirstFailing, IsInfeasible, IsNodeOf, IsSurvivor, IsUndecided, IsWideEntry, VerdictHolds}
-use Rattle.drg_engine.proofs.BuiltTests.{counts_fail}
+use Rattle.drg_engine.specs.Verdicts.{AreAllFound, AreSpectraOf, HasSpectra, IsFirstFailing, IsFoundBefore, IsInfeasible, IsNodeOf, IsOpen, IsRefused, IsStopped, IsSurvivor, IsWideEntry}
+use Rattle.drg_engine.proofs.BuiltTests.{array_test, built_number, counting_claim, count_number, counts_decidable, counts_fail, counts_no_frame, is_mult, test_kind}
+use Rattle.drg_engine.proofs.FoundTests.{all_passed, nothing, one_more}
+use Rattle.drg_engine.proofs.TestOrder.{all_but_mult, all_with_mult, all_within, tests_before}
 
 -- the derivation of these parts
 abbrev pub of_parts : Entries → Claim → List Line → Content
 of_parts a claim lines = record { array = a; claim = claim; lines = lines }
 
-module _ (law : UnfailedTestsHold) (a : Entries) where
-  module _ (graph : CountingClaimsLaw) (array : IsArray a) where
-    pub infeasible : (found : Infeasible) (lines : List Line) → found.derivation ≡ of_parts a found.claim lines → found.class ≡ class_of found.claim
-        → AreLinesOf a found.claim lines → answer_of (of_parts a found.claim lines) ≡ Ok (class_of found.claim) → found.pending ≡ [] → AreMade a found.claim
-        → (tests : List Test) → IsFirstFailing a tests found.claim → IsInfeasible a tests found
-    infeasible found lines parts same are answer none made tests first =
-        let claim = found.claim in
-        let built = first.runs.0 in
-        record {
-          claimed = first;
-          held = λ t before. law a t before.0.0
-              (λ other same fails. first.first other (inl (subst (λ u. IsEarlier u (test_of claim)) (sym same) before.1)) (subst (Runs tests) (sym same) before.0) fails);
-          none_pending = none;
-          same_array = ap (λ (δ : Content). δ.array) parts;
-          same_claim = ap (λ (δ : Content). δ.claim) parts;
-          lines = subst (λ (δ : Content). AreLinesOf a claim δ.lines) (sym parts) are;
-          made = made;
-          same_class = same;
-          accepted = ap answer_of parts ∙ (answer ∙ ap Ok (sym same));
-          graph = λ counting. graph a claim array (counts_fail a claim built first.fails);
-        }
+-- what is in a list of one item
+first_of : (x : Pending) → Contains (x ∷ []) x
+first_of x = (0, omega arith, refl)
 
-  pub undecided : (tests : List Test) (found : Undecided) (last : Test) (node : Node)
-      → IsFirstWide a node → IsWideEntry last node found.pending → AreTests (RunsBefore tests last) found.passed
-      → ((claim : Claim) → IsEarlier (test_of claim) last → Fails a claim → ⊥) → IsUndecided a tests found
-  undecided tests found last node wide entry are none = record {
+only : (x y : Pending) → Contains (x ∷ []) y → x ≡ y
+only x y h = elim (Contains-push_cases [] x y h) [ inl none ↦ absurd (nothing y none) | inr same ↦ same ]
+
+module _ (law : UnfailedTestsHold) (a : Entries) (tests : List Test) where
+  -- a test on counts passes where none of its claims fails
+  counts_pass : (t : Test) → test_number t ≤ 9 → Runs tests t → ((claim : Claim) → test_of claim ≡ t → Fails a claim → ⊥) → IsPassed a t
+  counts_pass t small runs none =
+      let counted = array_test t small in
+      record { holds = law a t runs.0 (counts_no_frame a t counted) none; decidable = counts_decidable a t counted }
+
+  -- each test before one that fails first passes
+  pub found_before : (claim : Claim) → ComesFirst a tests claim → IsFoundBefore a tests (test_of claim) []
+  found_before claim first =
+      let (ran, are) = tests_before tests (test_of claim) in
+      record {
+        ran = ran;
+        passed = ran;
+        all_ran = are;
+        found = all_passed a ran (λ t h.
+            let runs = (are.members t).0 h in
+            let most = built_number (test_of claim) first.runs.0 in
+            counts_pass t (omega (arith, runs.1, most)) runs.0 (λ other same fails.
+            first.first other (inl (subst (λ u. IsEarlier u (test_of claim)) (sym same) runs.1)) (subst (Runs tests) (sym same) runs.0) fails));
+      }
+
+  pub infeasible : CountingClaimsLaw → IsArray a → (found : Infeasible) (lines : List Line) → found.derivation ≡ of_parts a found.claim lines → found.class ≡ class_of found.claim
+      → AreLinesOf a found.claim lines → answer_of (of_parts a found.claim lines) ≡ Ok (class_of found.claim) → found.pending ≡ [] → found.other ≡ None
+      → AreMade a found.claim → IsDecidable a (test_of found.claim) → ComesFirst a tests found.claim → IsInfeasible a tests found
+  infeasible graph array found lines parts same are answer none no_other made decidable first =
+      let claim = found.claim in
+      record {
+        claimed = record { runs = first.runs; fails = first.fails; first = λ earlier same before. first.first earlier before (subst (Runs tests) (sym same) first.runs) };
+        before = subst (IsFoundBefore a tests (test_of claim)) (sym none) (found_before claim first);
+        certificate = subst (λ o. IsCertificate a found.pending o) (sym no_other) (λ (x, there, e). nothing x (subst (λ l. Contains l x) none there));
+        same_array = ap (λ (δ : Content). δ.array) parts;
+        same_claim = ap (λ (δ : Content). δ.claim) parts;
+        lines = subst (λ (δ : Content). AreLinesOf a claim δ.lines) (sym parts) are;
+        made = made;
+        decidable = decidable;
+        same_class = same;
+        accepted = ap answer_of parts ∙ (answer ∙ ap Ok (sym same));
+        graph = λ counting. graph a claim array (counts_fail a claim (counting_claim claim first.runs.0 (sym same ∙ counting)) first.fails);
+      }
+
+  pub stopped : (found : Undecided) (last : Test) (node : Node)
+      → IsFirstWide a node → IsWideEntry last node found.pending → test_number last ≤ 6 → AreTests (RunsBefore tests last) found.passed → found.other ≡ None
+      → ((claim : Claim) → IsEarlier (test_of claim) last → Fails a claim → ⊥) → IsStopped a tests found
+  stopped found last node wide entry early are no_other none = record {
     last = last;
     node = node;
     wide = wide;
     entry = entry;
     all_passed = are;
-    held = λ t h. let runs = (are.members t).0 h in
-        law a t runs.0.0 (λ claim same fails. none claim (subst (λ u. IsEarlier u last) (sym same) runs.1) fails);
+    held = λ t h.
+        let runs = (are.members t).0 h in
+        (counts_pass t (omega (arith, runs.1, early)) runs.0 (λ claim same fails. none claim (subst (λ u. IsEarlier u last) (sym same) runs.1) fails)).holds;
+    no_certificate = no_other;
   }
 
-  pub survivor : (tests : List Test) (found : Survivor) → AreTests (Runs tests) found.passed → AreNumbersOf a found.numbers → AllPass a
+  pub survivor : (found : Survivor) → AreTests (Runs tests) found.passed → AreNumbersOf a found.numbers → AllPass a → HasSpectra a tests found.spectra
+      → ((t : Test) → Runs tests t → HasFrameFor a t) → ((t : Test) → Runs tests t → IsDecidable a t)
       → ((claim : Claim) → Runs tests (test_of claim) → Fails a claim → ⊥) → IsSurvivor a tests found
-  survivor tests found are numbers_of pass none = record {
+  survivor found are numbers_of pass spectra frame made none = record {
     all_passed = are;
-    held = λ t h. let runs = (are.members t).0 h in law a t runs.0 (λ claim same fails. none claim (subst (Runs tests) (sym same) runs) fails);
+    held = λ t h.
+        let runs = (are.members t).0 h in
+        record {
+          holds = law a t runs.0 (frame t runs) (λ claim same fails. none claim (subst (Runs tests) (sym same) runs) fails);
+          decidable = made t runs;
+        };
     numbers_of = numbers_of;
     pass = pass;
+    spectra_of = spectra;
   }
+
+  -- ---- survivors
+  pub survivor_without : (found : Survivor) → ¬ Runs tests test.Mult → NoneFailsWithin a tests 9 → AreTests (RunsWithin tests 9) found.passed
+      → AreNumbersOf a found.numbers → AllPass a → found.spectra ≡ None → IsSurvivor a tests found
+  survivor_without found never none are numbers_of pass no_spectra =
+      survivor found (all_but_mult tests found.passed never are) numbers_of pass
+      (subst (HasSpectra a tests) (sym no_spectra) (λ t runs asks. never (subst (Runs tests) (is_mult t runs.0 asks) runs)))
+      (λ t runs asks. absurd (never (subst (Runs tests) (is_mult t runs.0 asks) runs)))
+      (λ t runs. elim (test_kind t runs.0) [ inl counted ↦ counts_decidable a t counted | inr same ↦ absurd (never (subst (Runs tests) same runs)) ])
+      (λ claim runs fails. elim (test_kind (test_of claim) runs.0) [
+        | inl counted ↦ none claim (runs, count_number (test_of claim) counted) fails
+        | inr same ↦ absurd (never (subst (Runs tests) same runs))
+      ])
+
+  frame_in : (spectra : Spectra) → AreSpectraOf a spectra → (f : FrameValues) × HasFrame a f
+  frame_in (Rational tables) (d, root, has) = (_, has)
+  frame_in (Quadratic tables) (d, root, has) = (_, has)
+
+  pub survivor_with : (found : Survivor) (spectra : Spectra) → Runs tests test.Mult → NoneFailsWithin a tests 9
+      → ((claim : Claim) → test_of claim ≡ test.Mult → Fails a claim → ⊥) → AreTests (RunsWithin tests 10) found.passed
+      → AreNumbersOf a found.numbers → AllPass a → found.spectra ≡ Some spectra → AreSpectraOf a spectra → IsFrameReached a → IsSurvivor a tests found
+  survivor_with found spectra runs none no_mult are numbers_of pass is has made =
+      survivor found (all_within tests found.passed are) numbers_of pass
+      (subst (HasSpectra a tests) (sym is) (test.Mult, runs, tt, has))
+      (λ t also asks. frame_in spectra has)
+      (λ t also. elim (test_kind t also.0) [ inl counted ↦ counts_decidable a t counted | inr same ↦ subst (IsDecidable a) (sym same) made ])
+      (λ claim also fails. elim (test_kind (test_of claim) also.0) [
+        | inl counted ↦ none claim (also, count_number (test_of claim) counted) fails
+        | inr same ↦ no_mult claim same fails
+      ])
+
+  -- ---- where mult can't be decided
+  module _ (pass : AllPass a) (none : NoneFailsWithin a tests 9) (runs : Runs tests test.Mult) where
+    within_pass : (ts : List Test) → AreTests (RunsWithin tests 9) ts → (t : Test) → Contains ts t → IsPassed a t
+    within_pass ts are t h =
+        let at = (are.members t).0 h in
+        counts_pass t at.1 at.0 (λ claim same fails. none claim (subst (RunsWithin tests 9) (sym same) at) fails)
+
+    all_found : (passed : List Test) (pending : List Pending) (c : Cause) → AreTests (RunsWithin tests 9) passed → IsCause a test.Mult c
+        → pending ≡ record { test = test.Mult; cause = c } ∷ [] → AreAllFound a tests passed pending
+    all_found passed pending c are is e = record {
+      pass = pass;
+      ran = passed ++ test.Mult ∷ [];
+      all_ran = all_with_mult tests passed runs are;
+      found = subst (AreFound a (passed ++ test.Mult ∷ []) passed) (sym e) (one_more a passed test.Mult c (within_pass passed are) is);
+    }
+
+    pub left_open : (found : Undecided) (node : Node) → AreTests (RunsWithin tests 9) found.passed → IsFirstTooWide a node
+        → found.pending ≡ record { test = test.Mult; cause = Wide node } ∷ [] → found.other ≡ None → IsOpen a tests found
+    left_open found node are wide e no_other = record {
+      found_all = all_found found.passed found.pending (Wide node) are wide e;
+      some = subst SomeIsWide (sym e) (_, first_of _, tt);
+      certificate = subst (λ o. IsCertificate a found.pending o) (sym no_other)
+          (λ (x, there, is). let same = only _ x (subst (λ l. Contains l x) e there) in
+          let other : Wide node ≡ Spectrum = ap (λ (y : Pending). y.cause) same ∙ is in cc);
+    }
+
+    pub refused : (found : RefusedSpectrum) → AreTests (RunsWithin tests 9) found.passed → HasOtherSpectrum a found.other
+        → found.pending ≡ record { test = test.Mult; cause = Spectrum } ∷ [] → IsRefused a tests found
+    refused found are other e = record {
+      found_all = all_found found.passed found.pending Spectrum are (found.other, other) e;
+      spectrum = subst AllAreSpectrum (sym e) (record {
+        some = (_, first_of _, refl);
+        all = λ x there. ap (λ (y : Pending). y.cause) (sym (only _ x there));
+      });
+      certificate = other;
+    }
 
 -- the derivation of a right verdict shows that the array fails the claim
 pub shown : (a : Entries) (tests : List Test) (found : Infeasible) → IsArray a → IsInfeasible a tests found → ShowsFailure found.derivation
@@ -90,50 +202,3 @@ shown a tests found array right =
       lines = rw (same, claimed) right.lines;
       made = rw (same, claimed) right.made;
     }
-
-pub decided : FailingTestsDontHold → (a : Entries) (tests : List Test) (verdict : Verdict) → NoneIsWide a → VerdictHolds a tests verdict → IsDecided a tests verdict
-decided false a tests (verdict.Infeasible found) none right = (right.claimed.runs, false a found.claim right.claimed.runs.0 right.claimed.fails)
-decided false a tests (verdict.Undecided found) none right = none right.node right.wide
-decided false a tests (verdict.Survivor found) none right = λ t runs. right.held t ((right.all_passed.members t).1 runs)
-
--- ---- a number that is too wide
--- a number is a part of one test
-pub one_part : (t u : Test) (node : Node) → IsNodeOf t node → IsNodeOf u node → t ≡ u
-one_part test.Size test.Size node part other = refl
-one_part test.Intersect test.Intersect node part other = refl
-one_part test.Size test.Intersect (P h i j) part other = absurd part
-one_part test.Size test.Intersect node part other = absurd other
-one_part test.Intersect test.Size (P h i j) part other = absurd other
-one_part test.Intersect test.Size node part other = absurd part
-one_part test.Size u node part other = absurd other
-one_part test.Intersect u node part other = absurd other
-one_part t u node part other = absurd part
-
-module _ (one : OneFault) (none : NoFaultWhereAllPass) (a : Entries) (node : Node) (wide : IsFirstWide a node) where
-  -- no claim fails whose numbers are made
-  pub no_claim : ((claim : Claim) → IsBasic claim → Fails a claim → ⊥) → (claim : Claim) → IsBuilt (test_of claim) → Fails a claim → AreMade a claim → ⊥
-  no_claim basic First built fails made = basic First (omega arith) fails
-  no_claim basic (Degree i) built fails made = basic (Degree i) (omega arith) fails
-  no_claim basic (Order i) built fails made = basic (Order i) (omega arith) fails
-  no_claim basic (Cross i j) built fails made = basic (Cross i j) (omega arith) fails
-  no_claim basic (Size i) built fails made =
-      let falls : IsNumbersFault a (fault.Fall (Size i)) = record { is_node = fails.0.1; reached = made.reached; fits = made.fits; failed = fails } in
-      let same = one a (fault.Wide node) (fault.Fall (Size i)) (λ e. cc) (λ e. cc) wide falls in cc
-  no_claim basic (Intersect h i j) built fails made =
-      let falls : IsNumbersFault a (fault.Fall (Intersect h i j)) = record { is_node = (fails.0, fails.1, fails.2); reached = made.reached; fits = made.fits; failed = fails } in
-      let same = one a (fault.Wide node) (fault.Fall (Intersect h i j)) (λ e. cc) (λ e. cc) wide falls in cc
-  no_claim basic (Handshake i) built fails made = none a (fault.Wide node) (λ e. cc) made wide
-  no_claim basic (Induced i j) built fails made = none a (fault.Wide node) (λ e. cc) made wide
-  no_claim basic (Triangles i) built fails made = none a (fault.Wide node) (λ e. cc) made wide
-  no_claim basic claim built fails made = absurd built
-
-  pub not_all_pass : AllPass a → ⊥
-  not_all_pass pass = none a (fault.Wide node) (λ e. cc) pass wide
-
-  pub one_wide : (other : Node) → IsFirstWide a other → other ≡ node
-  one_wide other first = let same = one a (fault.Wide other) (fault.Wide node) (λ e. cc) (λ e. cc) first wide in cc
-
-  pub stays_open : (tests : List Test) (verdict : Verdict) → ((claim : Claim) → IsBasic claim → Fails a claim → ⊥) → VerdictHolds a tests verdict → IsOpenAt node verdict
-  stays_open tests (verdict.Infeasible found) basic right = no_claim basic found.claim right.claimed.runs.0 right.claimed.fails right.made
-  stays_open tests (verdict.Undecided found) basic right = (right.last, subst (λ n. IsWideEntry right.last n found.pending) (one_wide right.node right.wide) right.entry)
-  stays_open tests (verdict.Survivor found) basic right = not_all_pass right.pass

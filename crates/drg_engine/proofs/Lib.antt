@@ -1,6 +1,16 @@
 pub mod Evidence
+pub mod FrameCauses
+pub mod SameFrames
+pub mod MultTests
+pub mod FrameTables
+pub mod FrameFaults
 pub mod BuiltTests
 pub mod TestOrder
+pub mod FoundTests
 pub mod ClaimFacts
 pub mod Decisions
+pub mod WideNumbers
+pub mod Completeness
+pub mod OneLines
+pub mod OneList
 pub mod OneReport

@@ -1,129 +1,51 @@
 -- Two right verdicts on one array, for the same tests, have one text.
-use Rattle.std.proofs.Common.{◌≡◌, ℕ, zero, suc, ◌+◌, ◌<◌, ◌≤◌, List, [], ◌∷◌, ◌++◌, refl, sym, ap, ap₂, ◌∙◌, subst, arith, inl, inr}
-use Rattle.std.specs.Prelude.{pos, ◌↔◌, Contains, codes, decimal}
-use Rattle.std.proofs.lemmas.List.{ext_get_or}
-use Rattle.std.proofs.lemmas.List.Elements.{Contains-append_right}
+use Rattle.std.proofs.Common.{◌≡◌, ℕ, zero, suc, ◌<◌, ◌≤◌, List, [], ◌∷◌, ◌++◌, None, Some, refl, sym, ap, ap₂, ◌∙◌, subst, arith, inl, inr}
+use Rattle.std.specs.Prelude.{pos, ◌⊎◌, Contains, Option, codes, decimal}
 use Rattle.drg_algebra.specs.Rational.{whole}
-use Rattle.drg_array.specs.ClaimOrder.{test_number}
+use Rattle.drg_array.specs.ClaimOrder.{ComesBefore, test_number}
 use Rattle.drg_array.specs.CatalogueLaws.{ClaimsInOrder}
 use Rattle.drg_array.specs.Claims.{class_of, test_of}
 use Rattle.drg_array.specs.Entries.{Entries, IsArray, diameter}
 use Rattle.drg_array.specs.declared.claim.Claim.{Claim}
-use Rattle.drg_array.specs.declared.claim.Claim.TheVariants.{First, Degree, Order, Cross, Size, Intersect, Handshake, Induced, Triangles}
 use Rattle.drg_array.specs.declared.claim.Class.{Class}
 use Rattle.drg_array.specs.declared.node.Node.{Node}
 use Rattle.drg_array.specs.declared.test.Test.{Test}
 use Rattle.drg_array.specs.declared.test.Test.TheVariants as test
-use Rattle.drg_array.proofs.NumberLaws.{one_number}
+use Rattle.drg_array.proofs.TestLaws.{one_number}
 use Rattle.drg_counting.specs.EntryTests.{IsBasic}
 use Rattle.drg_derivation.specs.Content.{Content}
 use Rattle.drg_derivation.specs.declared.line.Line.{Line}
-use Rattle.drg_derivation.specs.declared.line.Line.TheVariants.{K, P}
+use Rattle.drg_eigen.specs.declared.split.OtherSpectrum.{OtherSpectrum}
+use Rattle.drg_evidence.specs.Laws.{OneFrameOfValues, OneListOfFrameLines}
+use Rattle.drg_evidence.specs.Lines.{AreLinesOf}
 use Rattle.drg_intersection.specs.Laws.{OneFault, NoFaultWhereAllPass}
 use Rattle.drg_intersection.specs.Numbers.{AreNumbersOf, Numbers, k_at, n_of}
 use Rattle.drg_intersection.proofs.Ranges.{one_whole}
 use Rattle.drg_report.specs.Texts.{array_lines, numbers_lines, report_text, sizes_text, verdict_line}
-use Rattle.drg_report.specs.declared.verdict.Cause.TheVariants.{Wide}
+use Rattle.drg_report.specs.declared.verdict.Cause.{Cause}
+use Rattle.drg_report.specs.declared.verdict.Cause.TheVariants.{Wide, Spectrum}
 use Rattle.drg_report.specs.declared.verdict.Pending.{Pending}
 use Rattle.drg_report.specs.declared.verdict.Infeasible.{Infeasible}
 use Rattle.drg_report.specs.declared.verdict.Undecided.{Undecided}
+use Rattle.drg_report.specs.declared.verdict.RefusedSpectrum.{RefusedSpectrum}
 use Rattle.drg_report.specs.declared.verdict.Survivor.{Survivor}
 use Rattle.drg_report.specs.declared.verdict.Verdict.{Verdict}
 use Rattle.drg_report.specs.declared.verdict.Verdict.TheVariants as verdict
-use Rattle.drg_engine.specs.Conditions.{Fails, IsBuilt}
+use Rattle.drg_engine.specs.Causes.{IsCause, IsDecidable}
+use Rattle.drg_engine.specs.Conditions.{Fails}
+use Rattle.drg_engine.specs.Found.{AllAreSpectrum, AreFound, IsCertificate, IsPassed, IsWide, SomeIsSpectrum}
+use Rattle.drg_engine.specs.Frames.{HasOtherSpectrum}
 use Rattle.drg_engine.specs.Laws.{FailingTestsDontHold, HaveOneReport}
-use Rattle.drg_evidence.specs.Lines.{AreLinesOf, AreRowLines, AreSizesAndRows, IsRowLine, IsSizeLine}
-use Rattle.drg_engine.specs.Selections.{AreTests, IsAscending, IsEarlier, Runs, RunsBefore}
-use Rattle.drg_engine.specs.Verdicts.{IsFirstFailing, IsInfeasible, IsNodeOf, IsSurvivor, IsUndecided, VerdictHolds}
-use Rattle.drg_engine.proofs.BuiltTests.{either}
+use Rattle.drg_engine.specs.Selections.{AreTests, IsEarlier, Runs, RunsBefore}
+use Rattle.drg_engine.specs.Verdicts.{AreAllFound, IsFoundBefore, IsInfeasible, IsNodeOf, IsOpen, IsRefused, IsStopped, IsSurvivor, IsUndecided, VerdictHolds}
+use Rattle.drg_engine.specs.FrameLaws.{FrameLaws}
 use Rattle.drg_engine.proofs.ClaimFacts.{basic_runs}
-use Rattle.drg_engine.proofs.Decisions.{no_claim, not_all_pass, one_part, one_wide}
-
--- ---- lists of tests in their order
-head : (t : Test) (ts : List Test) → Contains (t ∷ ts) t
-head t ts = (0, omega arith, refl)
-
-same_head : (t u : Test) (ts us : List Test) → IsAscending (t ∷ ts) → IsAscending (u ∷ us) → Contains (u ∷ us) t → Contains (t ∷ ts) u → t ≡ u
-same_head t u ts us order other here there =
-    elim (either t u us here) [
-      | inl e ↦ sym e
-      | inr later ↦ elim (either u t ts there) [ inl e ↦ e | inr last ↦ (let less = other.0 t later in let more = order.0 u last in absurd (omega (arith, less, more))) ]
-    ]
-
-into_rest : (t v : Test) (ts us : List Test) → IsAscending (t ∷ ts) → ((w : Test) → Contains (t ∷ ts) w → Contains (t ∷ us) w) → Contains ts v → Contains us v
-into_rest t v ts us order into h =
-    elim (either v t us (into v (Contains-append_right (t ∷ []) ts v h))) [
-      | inl e ↦ (let less = subst (IsEarlier t) (sym e) (order.0 v h) in absurd (omega (arith, less)))
-      | inr more ↦ more
-    ]
-
-one_list : (ts us : List Test) → IsAscending ts → IsAscending us → ((t : Test) → Contains ts t ↔ Contains us t) → ts ≡ us
-one_list [] [] order other same = refl
-one_list [] (u ∷ us) order other same = (let none = (same u).1 (head u us) in absurd (omega (arith, none.1)))
-one_list (t ∷ ts) [] order other same = (let none = (same t).0 (head t ts) in absurd (omega (arith, none.1)))
-one_list (t ∷ ts) (u ∷ us) order other same =
-    let e = same_head t u ts us order other ((same t).0 (head t ts)) ((same u).1 (head u us)) in
-    let into : (w : Test) → Contains (t ∷ ts) w → Contains (t ∷ us) w = λ w h. subst (λ v. Contains (v ∷ us) w) (sym e) ((same w).0 h) in
-    let back : (w : Test) → Contains (t ∷ us) w → Contains (t ∷ ts) w = λ w h. (same w).1 (subst (λ v. Contains (v ∷ us) w) e h) in
-    let order_us : IsAscending (t ∷ us) = subst (λ v. IsAscending (v ∷ us)) (sym e) other in
-    ap₂ (λ v vs. v ∷ vs) e (one_list ts us order.1 other.1 (λ v. (into_rest t v ts us order into, into_rest t v us ts order_us back)))
-
-one_passed : (property : Test → Type 0) (ts us : List Test) → AreTests property ts → AreTests property us → ts ≡ us
-one_passed property ts us are other =
-    one_list ts us are.order other.order (λ t. ((λ h. (other.members t).1 ((are.members t).0 h)), (λ h. (are.members t).1 ((other.members t).0 h))))
-
--- ---- the first failing claim
-one_claim : ClaimsInOrder → (a : Entries) (tests : List Test) (claim other : Claim) → IsFirstFailing a tests claim → IsFirstFailing a tests other → claim ≡ other
-one_claim order a tests claim other first second =
-    elim (order.either claim other) [
-      | inl before ↦ absurd (second.first claim before first.runs first.fails)
-      | inr (inl same) ↦ same
-      | inr (inr after) ↦ absurd (first.first other after second.runs second.fails)
-    ]
-
--- ---- the lines of a claim
-module _ (a : Entries) (array : IsArray a) where
-  one_size_line : (m : ℕ) (line other : Line) → IsSizeLine a m line → IsSizeLine a m other → line ≡ other
-  one_size_line m (K xs) (K ys) (long, are) (wide, same) =
-      ap K (ext_get_or (pos 0) xs ys (long ∙ sym wide) (λ i h. one_whole _ _ (sym (are i (omega (arith, h, long))) ∙ same i (omega (arith, h, long)))))
-  one_size_line m (K xs) line is not = absurd not
-  one_size_line m line other is not = absurd is
-
-  one_row_line : (h i : ℕ) (line other : Line) → i ≤ diameter a → IsRowLine a h i line → IsRowLine a h i other → line ≡ other
-  one_row_line h i (P g l xs) (P f k ys) inside (first, second, long, are) (same_first, same_second, wide, same) =
-      let values = ext_get_or (pos 0) xs ys (long ∙ sym wide) (λ j below. let at : j ≤ diameter a = omega (arith, below, long) in
-      one_whole _ _ (one_number a h i j _ _ array inside at (are j at) (same j at))) in
-      ap (λ n. P n l xs) (first ∙ sym same_first) ∙ (ap (λ n. P f n xs) (second ∙ sym same_second) ∙ ap (P f k) values)
-  one_row_line h i (P g l xs) line inside is not = absurd not
-  one_row_line h i line other inside is not = absurd is
-
-  one_rows : (h i m : ℕ) (lines others : List Line) → i + m ≤ suc (diameter a) → AreRowLines a h i m lines → AreRowLines a h i m others → lines ≡ others
-  one_rows h i zero [] [] inside are same = refl
-  one_rows h i zero (line ∷ lines) others inside are same = absurd are
-  one_rows h i zero [] (line ∷ others) inside are same = absurd same
-  one_rows h i (suc m) [] others inside are same = absurd are
-  one_rows h i (suc m) (line ∷ lines) [] inside are same = absurd same
-  one_rows h i (suc m) (line ∷ lines) (other ∷ others) inside are same =
-      ap₂ (λ l ls. l ∷ ls) (one_row_line h i line other (omega (arith, inside)) are.0 same.0) (one_rows h (suc i) m lines others (omega (arith, inside)) are.1 same.1)
-
-  one_counts : (h m : ℕ) (lines others : List Line) → m ≤ diameter a → AreSizesAndRows a h m lines → AreSizesAndRows a h m others → lines ≡ others
-  one_counts h m [] others inside are same = absurd are
-  one_counts h m (line ∷ lines) [] inside are same = absurd same
-  one_counts h m (line ∷ lines) (other ∷ others) inside are same =
-      ap₂ (λ l ls. l ∷ ls) (one_size_line (suc (diameter a)) line other are.0 same.0) (one_rows h 1 m lines others (omega (arith, inside)) are.1 same.1)
-
-  one_lines : (claim : Claim) → IsBuilt (test_of claim) → Fails a claim → (lines others : List Line) → AreLinesOf a claim lines → AreLinesOf a claim others → lines ≡ others
-  one_lines First built fails lines others are same = are ∙ sym same
-  one_lines (Degree i) built fails lines others are same = are ∙ sym same
-  one_lines (Order i) built fails lines others are same = are ∙ sym same
-  one_lines (Cross i j) built fails lines others are same = are ∙ sym same
-  one_lines (Size i) built fails lines others (line, e, is) (other, f, also) = e ∙ (ap (λ l. l ∷ []) (one_size_line i line other is also) ∙ sym f)
-  one_lines (Intersect h zero j) built fails lines others are same = absurd are
-  one_lines (Intersect h (suc i) j) built fails lines others are same = (let inside = fails.1 in one_rows h 1 i lines others (omega (arith, inside)) are same)
-  one_lines (Handshake i) built fails lines others are same = one_counts i 0 lines others (omega arith) are same
-  one_lines (Induced i j) built fails lines others are same = one_counts i i lines others fails.0.1 are same
-  one_lines (Triangles i) built fails lines others are same = one_counts i i lines others fails.0.1 are same
-  one_lines claim built fails lines others are same = absurd built
+use Rattle.drg_engine.proofs.FoundTests.{all_passed, entry_of, nothing, one_found, passed_or_not}
+use Rattle.drg_engine.proofs.FrameCauses.{no_cause, one_other}
+use Rattle.drg_engine.proofs.OneLines.{one_lines}
+use Rattle.drg_engine.proofs.OneList.{one_passed}
+use Rattle.drg_engine.proofs.SameFrames.{same_spectra}
+use Rattle.drg_engine.proofs.WideNumbers.{no_claim, not_all_pass, one_part, one_wide}
 
 -- ---- the numbers that are written
 one_natural : (m n : ℕ) → whole (pos m) ≡ whole (pos n) → m ≡ n
@@ -144,71 +66,175 @@ same_numbers a numbers other are same =
 
 -- ---- two verdicts
 same_content : (δ ε : Content) → δ.array ≡ ε.array → δ.claim ≡ ε.claim → δ.lines ≡ ε.lines → δ ≡ ε
-same_content δ ε arrays claims lines =
-    ap (λ (e : Entries). record { array = e; claim = δ.claim; lines = δ.lines }) arrays
-    ∙ (ap (λ (c : Claim). record { array = ε.array; claim = c; lines = δ.lines }) claims
-    ∙ ap (λ (ls : List Line). record { array = ε.array; claim = ε.claim; lines = ls }) lines)
+same_content δ ε arrays claims lines i = record { array = arrays i; claim = claims i; lines = lines i }
 
-same_infeasible : (found other : Infeasible) → found.claim ≡ other.claim → found.class ≡ other.class → found.derivation ≡ other.derivation → found.pending ≡ other.pending → found ≡ other
-same_infeasible found other claims classes derivations pendings =
-    ap (λ (c : Claim). record { claim = c; class = found.class; derivation = found.derivation; pending = found.pending }) claims
-    ∙ (ap (λ (c : Class). record { claim = other.claim; class = c; derivation = found.derivation; pending = found.pending }) classes
-    ∙ (ap (λ (δ : Content). record { claim = other.claim; class = other.class; derivation = δ; pending = found.pending }) derivations
-    ∙ ap (λ (ps : List Pending). record { claim = other.claim; class = other.class; derivation = other.derivation; pending = ps }) pendings))
+same_infeasible : (found other : Infeasible) → found.claim ≡ other.claim → found.class ≡ other.class → found.derivation ≡ other.derivation → found.pending ≡ other.pending
+    → found.other ≡ other.other → found ≡ other
+same_infeasible found other claims classes derivations pendings others i =
+    record { claim = claims i; class = classes i; derivation = derivations i; pending = pendings i; other = others i }
 
-same_undecided : (found other : Undecided) → found.passed ≡ other.passed → found.pending ≡ other.pending → found ≡ other
-same_undecided found other passed pending =
-    ap (λ (ts : List Test). record { passed = ts; pending = found.pending }) passed ∙ ap (λ (ps : List Pending). record { passed = other.passed; pending = ps }) pending
+same_undecided : (found other : Undecided) → found.passed ≡ other.passed → found.pending ≡ other.pending → found.other ≡ other.other → found ≡ other
+same_undecided found other passed pending others i = record { passed = passed i; pending = pending i; other = others i }
+
+same_refused : (found other : RefusedSpectrum) → found.passed ≡ other.passed → found.pending ≡ other.pending → found.other ≡ other.other → found ≡ other
+same_refused found other passed pending others i = record { passed = passed i; pending = pending i; other = others i }
 
 part_late : (last : Test) (node : Node) → IsNodeOf last node → 5 ≤ test_number last
 part_late test.Size node part = omega arith
 part_late test.Intersect node part = omega arith
 part_late last node part = absurd part
 
-module _ (order : ClaimsInOrder) (false : FailingTestsDontHold) (one : OneFault) (none : NoFaultWhereAllPass) (a : Entries) (tests : List Test) (array : IsArray a) where
+compared : (m n : ℕ) → (m < n) ⊎ ((m ≡ n) ⊎ (n < m))
+compared zero zero = inr (inl refl)
+compared zero (suc n) = inl (omega arith)
+compared (suc m) zero = inr (inr (omega arith))
+compared (suc m) (suc n) = elim (compared m n) [ inl less ↦ inl (omega (arith, less)) | inr (inl e) ↦ inr (inl (ap suc e)) | inr (inr more) ↦ inr (inr (omega (arith, more))) ]
+
+module _ (laws : FrameLaws) (frame : OneFrameOfValues) (list : OneListOfFrameLines) (order : ClaimsInOrder) (false : FailingTestsDontHold) (one : OneFault) (none : NoFaultWhereAllPass)
+    (a : Entries) (tests : List Test) (array : IsArray a) where
+  one_certificate : (ps qs : List Pending) (o p : Option OtherSpectrum) → ps ≡ qs → IsCertificate a ps o → IsCertificate a qs p → o ≡ p
+  one_certificate ps qs None None e is also = refl
+  one_certificate ps qs None (Some p) e is also = absurd (is (subst SomeIsSpectrum (sym e) also.0))
+  one_certificate ps qs (Some o) None e is also = absurd (also (subst SomeIsSpectrum e is.0))
+  one_certificate ps qs (Some o) (Some p) e is also = ap Some (one_other laws a o p is.1 also.1)
+
+  -- a failing test that can be decided is neither among those that passed nor pending
+  not_found : (claim : Claim) (ran passed : List Test) (pending : List Pending) → Runs tests (test_of claim) → Fails a claim → IsDecidable a (test_of claim)
+      → AreFound a ran passed pending → Contains ran (test_of claim) → ⊥
+  not_found claim ran passed pending runs fails made found there =
+      elim (passed_or_not a ran passed pending (test_of claim) found there) [
+        | inl pass ↦ false a claim array runs.0 fails pass.holds
+        | inr (c, is, in_list) ↦ no_cause laws a (test_of claim) c is made
+      ]
+
+  one_claim : (found other : Infeasible) → IsInfeasible a tests found → IsInfeasible a tests other → found.claim ≡ other.claim
+  one_claim found other right also =
+      elim (compared (test_number (test_of found.claim)) (test_number (test_of other.claim))) [
+        | inl less ↦ absurd (not_found found.claim also.before.ran also.before.passed other.pending right.claimed.runs right.claimed.fails right.decidable
+            also.before.found ((also.before.all_ran.members (test_of found.claim)).1 (right.claimed.runs, less)))
+        | inr (inl same) ↦ (let tests_same = one_number (test_of found.claim) (test_of other.claim) same in
+            elim (order.either found.claim other.claim) [
+              | inl before ↦ absurd (also.claimed.first found.claim tests_same before right.claimed.fails)
+              | inr (inl e) ↦ e
+              | inr (inr after) ↦ absurd (right.claimed.first other.claim (sym tests_same) after also.claimed.fails)
+            ])
+        | inr (inr more) ↦ absurd (not_found other.claim right.before.ran right.before.passed found.pending also.claimed.runs also.claimed.fails also.decidable
+            right.before.found ((right.before.all_ran.members (test_of other.claim)).1 (also.claimed.runs, more)))
+      ]
+
+  one_before : (last : Test) (ps qs : List Pending) → IsFoundBefore a tests last ps → IsFoundBefore a tests last qs → ps ≡ qs
+  one_before last ps qs found also =
+      let lists = one_passed (RunsBefore tests last) found.ran also.ran found.all_ran also.all_ran in
+      (one_found laws a also.ran found.passed also.passed ps qs (subst (λ ts. AreFound a ts found.passed ps) lists found.found) also.found).1
+
   both_infeasible : (found other : Infeasible) → IsInfeasible a tests found → IsInfeasible a tests other → found ≡ other
   both_infeasible found other right also =
-      let claims = one_claim order a tests found.claim other.claim right.claimed also.claimed in
-      let lines = one_lines a array found.claim right.claimed.runs.0 right.claimed.fails found.derivation.lines other.derivation.lines right.lines
+      let claims = one_claim found other right also in
+      let lines = one_lines list a array found.claim right.claimed.runs.0 right.claimed.fails found.derivation.lines other.derivation.lines right.lines
       (subst (λ c. AreLinesOf a c other.derivation.lines) (sym claims) also.lines) in
       let classes = right.same_class ∙ (ap class_of claims ∙ sym also.same_class) in
+      let pendings = one_before (test_of found.claim) found.pending other.pending right.before
+      (subst (λ c. IsFoundBefore a tests (test_of c) other.pending) (sym claims) also.before) in
       same_infeasible found other claims classes
       (same_content found.derivation other.derivation (right.same_array ∙ sym also.same_array) (right.same_claim ∙ (claims ∙ sym also.same_claim)) lines)
-      (right.none_pending ∙ sym also.none_pending)
+      pendings (one_certificate found.pending other.pending found.other other.other pendings right.certificate also.certificate)
 
-  both_undecided : (found other : Undecided) → IsUndecided a tests found → IsUndecided a tests other → found ≡ other
-  both_undecided found other right also =
+  both_stopped : (found other : Undecided) → IsStopped a tests found → IsStopped a tests other → found ≡ other
+  both_stopped found other right also =
       let nodes = one_wide one none a also.node also.wide right.node right.wide in
       let lasts = one_part right.last also.last also.node (subst (IsNodeOf right.last) nodes right.entry.0) also.entry.0 in
       let passed = one_passed (RunsBefore tests also.last) found.passed other.passed (subst (λ t. AreTests (RunsBefore tests t) found.passed) lasts right.all_passed) also.all_passed in
       let entries = ap₂ (λ (t : Test) (n : Node). record { test = t; cause = Wide n } ∷ []) lasts nodes in
-      same_undecided found other passed (right.entry.1 ∙ (entries ∙ sym also.entry.1))
+      same_undecided found other passed (right.entry.1 ∙ (entries ∙ sym also.entry.1)) (right.no_certificate ∙ sym also.no_certificate)
 
-  not_undecided : (found : Infeasible) (other : Undecided) → IsInfeasible a tests found → IsUndecided a tests other → ⊥
-  not_undecided found other right also =
-      let late = part_late also.last also.node also.entry.0 in
-      let basic : (claim : Claim) → IsBasic claim → Fails a claim → ⊥ = λ claim small fails. let runs = basic_runs tests claim small in
-      false a claim runs.0 fails (also.held (test_of claim) ((also.all_passed.members (test_of claim)).1 (runs, omega (arith, small, late)))) in
-      no_claim one none a also.node also.wide basic found.claim right.claimed.runs.0 right.claimed.fails right.made
+  both_found : (ps qs : List Test) (es fs : List Pending) → AreAllFound a tests ps es → AreAllFound a tests qs fs → (ps ≡ qs) × (es ≡ fs)
+  both_found ps qs es fs all also =
+      let lists = one_passed (Runs tests) all.ran also.ran all.all_ran also.all_ran in
+      one_found laws a also.ran ps qs es fs (subst (λ ts. AreFound a ts ps es) lists all.found) also.found
 
-  not_survivor : (found : Infeasible) (other : Survivor) → IsInfeasible a tests found → IsSurvivor a tests other → ⊥
-  not_survivor found other right also =
-      let claim = found.claim in
-      false a claim right.claimed.runs.0 right.claimed.fails (also.held (test_of claim) ((also.all_passed.members (test_of claim)).1 right.claimed.runs))
+  both_open : (found other : Undecided) → IsOpen a tests found → IsOpen a tests other → found ≡ other
+  both_open found other right also =
+      let same = both_found found.passed other.passed found.pending other.pending right.found_all also.found_all in
+      same_undecided found other same.0 same.1 (one_certificate found.pending other.pending found.other other.other same.1 right.certificate also.certificate)
+
+  both_undecided : (found other : Undecided) → IsUndecided a tests found → IsUndecided a tests other → found ≡ other
+  both_undecided found other (inl right) (inl also) = both_stopped found other right also
+  both_undecided found other (inl right) (inr also) = absurd (not_all_pass one none a right.node right.wide also.found_all.pass)
+  both_undecided found other (inr right) (inl also) = absurd (not_all_pass one none a also.node also.wide right.found_all.pass)
+  both_undecided found other (inr right) (inr also) = both_open found other right also
+
+  both_refused : (found other : RefusedSpectrum) → IsRefused a tests found → IsRefused a tests other → found ≡ other
+  both_refused found other right also =
+      let same = both_found found.passed other.passed found.pending other.pending right.found_all also.found_all in
+      same_refused found other same.0 same.1 (one_other laws a found.other other.other right.certificate also.certificate)
 
   both_survivors : (found other : Survivor) → IsSurvivor a tests found → IsSurvivor a tests other → report_text a (verdict.Survivor found) ≡ report_text a (verdict.Survivor other)
   both_survivors found other right also =
       let passed = one_passed (Runs tests) found.passed other.passed right.all_passed also.all_passed in
-      ap₂ (λ (ts : List Test) numbers. verdict_line (verdict.Survivor other) ++ array_lines a ts ++ numbers) passed
-      (same_numbers a found.numbers other.numbers right.numbers_of also.numbers_of)
+      let tables = same_spectra frame a array tests found.spectra other.spectra right.spectra_of also.spectra_of in
+      let start = ap₂ (λ (ts : List Test) (lines : List ℕ). verdict_line (verdict.Survivor other) ++ array_lines a ts ++ lines) passed
+      (same_numbers a found.numbers other.numbers right.numbers_of also.numbers_of) in
+      ap₂ (λ (x y : List ℕ). x ++ y) start tables
+
+  -- ---- verdicts of two kinds
+  not_stopped : (found : Infeasible) (other : Undecided) → IsInfeasible a tests found → IsStopped a tests other → ⊥
+  not_stopped found other right also =
+      let late = part_late also.last also.node also.entry.0 in
+      let basic : (claim : Claim) → IsBasic claim → Fails a claim → ⊥ = λ claim small fails. let runs = basic_runs tests claim small in
+      false a claim array runs.0 fails (also.held (test_of claim) ((also.all_passed.members (test_of claim)).1 (runs, omega (arith, small, late)))) in
+      no_claim one none a also.node also.wide basic found.claim right.claimed.runs.0 right.claimed.fails right.made
+
+  not_all_found : (found : Infeasible) (passed : List Test) (pending : List Pending) → IsInfeasible a tests found → AreAllFound a tests passed pending → ⊥
+  not_all_found found passed pending right all =
+      not_found found.claim all.ran passed pending right.claimed.runs right.claimed.fails right.decidable all.found ((all.all_ran.members (test_of found.claim)).1 right.claimed.runs)
+
+  survivor_found : (found : Survivor) → IsSurvivor a tests found → AreAllFound a tests found.passed []
+  survivor_found found right = record { pass = right.pass; ran = found.passed; all_ran = right.all_passed; found = all_passed a found.passed right.held }
+
+  none_pending : (found : Survivor) (passed : List Test) (pending : List Pending) (x : Pending) → IsSurvivor a tests found → AreAllFound a tests passed pending → Contains pending x → ⊥
+  none_pending found passed pending x right all there =
+      let same = both_found found.passed passed [] pending (survivor_found found right) all in
+      nothing x (subst (λ l. Contains l x) (sym same.1) there)
+
+  not_wide : (c : Cause) → IsWide c → c ≡ Spectrum → ⊥
+  not_wide (Wide node) wide e = cc
+  not_wide Spectrum wide e = absurd wide
+
+  not_refused : (found : Undecided) (other : RefusedSpectrum) → IsUndecided a tests found → IsRefused a tests other → ⊥
+  not_refused found other (inl right) also = not_all_pass one none a right.node right.wide also.found_all.pass
+  not_refused found other (inr right) also =
+      let same = both_found found.passed other.passed found.pending other.pending right.found_all also.found_all in
+      let (x, there, wide) = right.some in
+      not_wide x.cause wide (also.spectrum.all x (subst (λ l. Contains l x) same.1 there))
+
+  infeasible_or_undecided : (found : Infeasible) (other : Undecided) → IsInfeasible a tests found → IsUndecided a tests other → ⊥
+  infeasible_or_undecided found other right (inl also) = not_stopped found other right also
+  infeasible_or_undecided found other right (inr also) = not_all_found found other.passed other.pending right also.found_all
+
+  undecided_or_survivor : (found : Undecided) (other : Survivor) → IsUndecided a tests found → IsSurvivor a tests other → ⊥
+  undecided_or_survivor found other (inl right) also = not_all_pass one none a right.node right.wide also.pass
+  undecided_or_survivor found other (inr right) also = none_pending other found.passed found.pending right.some.0 also right.found_all right.some.1
+
+  refused_or_survivor : (found : RefusedSpectrum) (other : Survivor) → IsRefused a tests found → IsSurvivor a tests other → ⊥
+  refused_or_survivor found other right also = none_pending other found.passed found.pending right.spectrum.some.0 also right.found_all right.spectrum.some.1
+
+  infeasible_or_survivor : (found : Infeasible) (other : Survivor) → IsInfeasible a tests found → IsSurvivor a tests other → ⊥
+  infeasible_or_survivor found other right also = not_all_found found other.passed [] right (survivor_found other also)
 
   pub one_report : (v w : Verdict) → VerdictHolds a tests v → VerdictHolds a tests w → HaveOneReport a v w
   one_report (verdict.Infeasible f) (verdict.Infeasible g) right also = ap (λ x. report_text a (verdict.Infeasible x)) (both_infeasible f g right also)
   one_report (verdict.Undecided f) (verdict.Undecided g) right also = ap (λ x. report_text a (verdict.Undecided x)) (both_undecided f g right also)
+  one_report (verdict.RefusedSpectrum f) (verdict.RefusedSpectrum g) right also = ap (λ x. report_text a (verdict.RefusedSpectrum x)) (both_refused f g right also)
   one_report (verdict.Survivor f) (verdict.Survivor g) right also = both_survivors f g right also
-  one_report (verdict.Infeasible f) (verdict.Undecided g) right also = absurd (not_undecided f g right also)
-  one_report (verdict.Undecided f) (verdict.Infeasible g) right also = absurd (not_undecided g f also right)
-  one_report (verdict.Infeasible f) (verdict.Survivor g) right also = absurd (not_survivor f g right also)
-  one_report (verdict.Survivor f) (verdict.Infeasible g) right also = absurd (not_survivor g f also right)
-  one_report (verdict.Undecided f) (verdict.Survivor g) right also = absurd (not_all_pass one none a right.node right.wide also.pass)
-  one_report (verdict.Survivor f) (verdict.Undecided g) right also = absurd (not_all_pass one none a also.node also.wide right.pass)
+  one_report (verdict.Infeasible f) (verdict.Undecided g) right also = absurd (infeasible_or_undecided f g right also)
+  one_report (verdict.Undecided f) (verdict.Infeasible g) right also = absurd (infeasible_or_undecided g f also right)
+  one_report (verdict.Infeasible f) (verdict.RefusedSpectrum g) right also = absurd (not_all_found f g.passed g.pending right also.found_all)
+  one_report (verdict.RefusedSpectrum f) (verdict.Infeasible g) right also = absurd (not_all_found g f.passed f.pending also right.found_all)
+  one_report (verdict.Infeasible f) (verdict.Survivor g) right also = absurd (infeasible_or_survivor f g right also)
+  one_report (verdict.Survivor f) (verdict.Infeasible g) right also = absurd (infeasible_or_survivor g f also right)
+  one_report (verdict.Undecided f) (verdict.RefusedSpectrum g) right also = absurd (not_refused f g right also)
+  one_report (verdict.RefusedSpectrum f) (verdict.Undecided g) right also = absurd (not_refused g f also right)
+  one_report (verdict.Undecided f) (verdict.Survivor g) right also = absurd (undecided_or_survivor f g right also)
+  one_report (verdict.Survivor f) (verdict.Undecided g) right also = absurd (undecided_or_survivor g f also right)
+  one_report (verdict.RefusedSpectrum f) (verdict.Survivor g) right also = absurd (refused_or_survivor f g right also)
+  one_report (verdict.Survivor f) (verdict.RefusedSpectrum g) right also = absurd (refused_or_survivor g f also right)

@@ -4,13 +4,15 @@ use Rattle.std.specs.Prelude.{◌⊎◌, ⊤, Contains}
 use Rattle.std.proofs.lemmas.List.{get_or-take, get_or-drop, length-take, length-drop}
 use Rattle.std.proofs.lemmas.List.Elements.{Contains-append_left, Contains-append_right, Contains-push, Contains-push_cases}
 use Rattle.drg_array.specs.ClaimOrder.{test_number}
+use Rattle.drg_array.specs.TestLists.{IsAlwaysRun}
 use Rattle.drg_array.specs.declared.test.Test.{Test}
 use Rattle.drg_array.specs.declared.test.Test.TheVariants.{First, Degree, Order, Cross, Size, Intersect, Handshake, Induced, Triangles, Mult, Krein, Absolute, Triple, Ktriple}
 use Rattle.drg_array.specs.declared.test.TheConstants.Test.{ALL}
 use Rattle.drg_array.proofs.TestLaws.{one_number}
+use Rattle.drg_engine.specs.Conditions.{IsBuilt}
 use Rattle.drg_engine.specs.Courses.{RunsWithin}
 use Rattle.drg_engine.specs.Selections.{Runs, RunsBefore, IsEarlier, IsAscending, AreTests}
-use Rattle.drg_engine.proofs.BuiltTests.{built_number}
+use Rattle.drg_engine.proofs.BuiltTests.{always_or_not, built_number, built_or_not, either}
 
 -- ---- the numbers of the tests, from 1
 pub from_one : (t : Test) → 1 ≤ test_number t
@@ -115,15 +117,71 @@ module _ (tests : List Test) where
           let other : test_number t ≡ test_number u → ⊥ = λ e. never (subst (Runs tests) (one_number t u e) runs) in
           grind (arith, next, top, other)
 
-  -- each test that runs is one of the first nine
-  pub all_within : (ts : List Test) → AreTests (RunsWithin tests 9) ts → AreTests (Runs tests) ts
+  -- each test that runs is one of the first ten
+  pub all_within : (ts : List Test) → AreTests (RunsWithin tests 10) ts → AreTests (Runs tests) ts
   all_within ts are = record {
     order = are.order;
     members = λ t. ((λ h. ((are.members t).0 h).0), (λ runs. (are.members t).1 (runs, built_number t runs.0)));
   }
+
+  -- and one of the first nine where mult doesn't run
+  pub all_but_mult : (ts : List Test) → ¬ Runs tests Mult → AreTests (RunsWithin tests 9) ts → AreTests (Runs tests) ts
+  all_but_mult ts never are = all_within ts (left_out 9 ts Mult are refl never)
+
+  pub all_with_mult : (ts : List Test) → Runs tests Mult → AreTests (RunsWithin tests 9) ts → AreTests (Runs tests) (ts ++ Mult ∷ [])
+  all_with_mult ts runs are = all_within (ts ++ Mult ∷ []) (taken 9 ts Mult are refl runs)
 
   pub all_before : (n : ℕ) (ts : List Test) (last : Test) → test_number last ≡ suc n → AreTests (RunsWithin tests n) ts → AreTests (RunsBefore tests last) ts
   all_before n ts last next are = record {
     order = are.order;
     members = λ t. ((λ h. let at = (are.members t).0 h in (at.0, omega (arith, at.1, next))), (λ h. (are.members t).1 (h.0, omega (arith, h.1, next))));
   }
+
+  -- ---- which tests run can be told
+  contains_or_not : (ts : List Test) (t : Test) → Contains ts t ⊎ (¬ Contains ts t)
+  contains_or_not [] t = inr (λ h. omega (arith, h.1))
+  contains_or_not (u ∷ us) t =
+      elim (contains_or_not us t) [
+        | inl there ↦ inl (Contains-append_right (u ∷ []) us t there)
+        | inr never ↦ elim (same_number (test_number u) (test_number t)) [
+          | inl e ↦ inl (0, omega arith, one_number u t e)
+          | inr other ↦ inr (λ h. elim (either t u us h) [ inl e ↦ other (ap test_number e) | inr more ↦ never more ])
+        ]
+      ]
+    where
+      same_number : (m n : ℕ) → (m ≡ n) ⊎ (¬ (m ≡ n))
+      same_number zero zero = inl refl
+      same_number zero (suc n) = inr (λ e. omega (arith, e))
+      same_number (suc m) zero = inr (λ e. omega (arith, e))
+      same_number (suc m) (suc n) = elim (same_number m n) [ inl e ↦ inl (ap suc e) | inr other ↦ inr (λ e. other (omega (arith, e))) ]
+
+  runs_or_not : (t : Test) → Runs tests t ⊎ (¬ Runs tests t)
+  runs_or_not t = go (built_or_not t) (always_or_not t) (contains_or_not tests t) where
+    go : IsBuilt t ⊎ (¬ IsBuilt t) → IsAlwaysRun t ⊎ (¬ IsAlwaysRun t) → Contains tests t ⊎ (¬ Contains tests t) → Runs tests t ⊎ (¬ Runs tests t)
+    go (inr never) always there = inr (λ runs. never runs.0)
+    go (inl built) (inl always) there = inl (built, inl always)
+    go (inl built) (inr never) (inl there) = inl (built, inr there)
+    go (inl built) (inr never) (inr nowhere) = inr (λ runs. elim runs.1 [ inl always ↦ never always | inr there ↦ nowhere there ])
+
+  place : (n : ℕ) → suc n ≤ 14 → test_number (get_or (take (14 - 0) (drop 0 ALL)) n First) ≡ suc n
+  place n inside = let at = number_at 0 14 n (omega arith) (omega (arith, inside)) in omega (arith, at)
+
+  pub tests_within : (n : ℕ) → n ≤ 14 → (ts : List Test) × AreTests (RunsWithin tests n) ts
+  tests_within zero inside = ([], none_yet)
+  tests_within (suc n) inside =
+      let (ts, are) = tests_within n (omega (arith, inside)) in
+      let u = get_or (take (14 - 0) (drop 0 ALL)) n First in
+      let number = place n inside in
+      elim (runs_or_not u) [
+        | inl runs ↦ (ts ++ u ∷ [], taken n ts u are number runs)
+        | inr never ↦ (ts, left_out n ts u are number never)
+      ]
+
+  -- the tests that run before this one
+  pub tests_before : (last : Test) → (ts : List Test) × AreTests (RunsBefore tests last) ts
+  tests_before last =
+      let first = from_one last in
+      let top = to_fourteen last in
+      let n = test_number last - 1 in
+      let (ts, are) = tests_within n (omega (arith, top)) in
+      (ts, all_before n ts last (omega (arith, first)) are)

@@ -1,12 +1,17 @@
 -- The conditions of the tests that are built: where one holds of an array, and where it fails at
 -- the numbers of a claim.
-use Rattle.std.specs.Prelude.{⊤}
+use Rattle.std.specs.Prelude.{⊤, ℕ}
 use Rattle.drg_array.specs.Entries.{Entries}
-use Rattle.drg_array.specs.Conditions.{CountsHold, CountsFail}
+use Rattle.drg_array.specs.Conditions.{CountsHold, CountsFail, IsPlace}
 use Rattle.drg_array.specs.declared.test.Test.{Test}
 use Rattle.drg_array.specs.declared.test.Test.TheVariants as test
 use Rattle.drg_array.specs.declared.claim.Claim.{Claim}
 use Rattle.drg_array.specs.declared.claim.Claim.TheVariants.{First, Degree, Order, Cross, Size, Intersect, Handshake, Induced, Triangles, Mult, Krein, Absolute, Triple, Ktriple}
+use Rattle.drg_bounds.specs.Multiplicities.{IsPositiveWhole}
+use Rattle.drg_evidence.specs.FrameValues.{FrameValues, HasFrame}
+use Rattle.drg_evidence.specs.Laws.{FailsMult}
+use Rattle.drg_matrix.specs.Frame.{multiplicity}
+use Rattle.drg_quadratic.specs.Operations.{value_operations}
 
 -- the test is built: its condition is stated here, and it runs where it is selected
 abbrev pub IsBuilt : Test → Type 0
@@ -19,7 +24,7 @@ IsBuilt test.Intersect = ⊤
 IsBuilt test.Handshake = ⊤
 IsBuilt test.Induced = ⊤
 IsBuilt test.Triangles = ⊤
-IsBuilt test.Mult = ⊥
+IsBuilt test.Mult = ⊤
 IsBuilt test.Krein = ⊥
 IsBuilt test.Absolute = ⊥
 IsBuilt test.Triple = ⊥
@@ -30,6 +35,13 @@ IsBuilt test.Ktriple = ⊥
 -- is said of tests that are built.
 pub IsUnstated : Type 0
 IsUnstated = ⊥
+
+-- The array has a frame, and its multiplicities m_1 to m_d are whole numbers above 0.
+pub record HoldsMult (a : Entries) : Type 0 where
+  pub frame : FrameValues
+  pub is : HasFrame a frame
+  pub whole : (i : ℕ) → IsPlace a i
+      → IsPositiveWhole (value_operations frame.root) (multiplicity frame.dual i)
 
 -- the condition of the test
 abbrev pub Holds : Entries → Test → Type 0
@@ -42,7 +54,7 @@ Holds a test.Intersect = CountsHold a test.Intersect
 Holds a test.Handshake = CountsHold a test.Handshake
 Holds a test.Induced = CountsHold a test.Induced
 Holds a test.Triangles = CountsHold a test.Triangles
-Holds a test.Mult = IsUnstated
+Holds a test.Mult = HoldsMult a
 Holds a test.Krein = IsUnstated
 Holds a test.Absolute = IsUnstated
 Holds a test.Triple = IsUnstated
@@ -60,7 +72,7 @@ Fails a (Intersect h i j) = CountsFail a (Intersect h i j)
 Fails a (Handshake i) = CountsFail a (Handshake i)
 Fails a (Induced i j) = CountsFail a (Induced i j)
 Fails a (Triangles i) = CountsFail a (Triangles i)
-Fails a (Mult i) = IsUnstated
+Fails a (Mult i) = FailsMult a i
 Fails a (Krein i j h) = IsUnstated
 Fails a (Absolute i j) = IsUnstated
 Fails a (Triple u v w) = IsUnstated

@@ -1,5 +1,10 @@
+pub mod Frames
+pub mod FrameLaws
 pub mod Conditions
 pub mod Selections
 pub mod Courses
+pub mod Causes
+pub mod Found
+pub mod SpectraFaults
 pub mod Verdicts
 pub mod Laws

@@ -1,4 +1,4 @@
-use Rattle.std.proofs.Common.{◌∙◌, sym, subst, ap}
+use Rattle.std.proofs.Common.{◌∙◌, refl, sym, subst, ap}
 use Rattle.std.proofs.lemmas.Bool.{false≢true}
 use Rattle.drg_array.specs.Entries.{Entries}
 use Rattle.drg_derivation.specs.Text.{HasText}
@@ -22,5 +22,5 @@ returns c = λ tests first.
     let parts = c.in-Some.ensures.parts ∙ ap (λ (e : Entries). of_parts e claim lines) c.copied.ensures in
     let shows : ShowsFailure (of_parts c.args.array.now c.args.claim c.args.lines.items) = record { array = c.known_valid.ensures; built = c.requires.built; fails = c.requires.fails; lines = c.requires.lines; made = c.requires.made } in
     let answer = c.acceptance_law.ensures (of_parts a claim lines) shows in
-    infeasible c.built_law.ensures.holds a c.counting_claims_law.ensures c.known_valid.ensures _ lines parts
-    c.class.ensures c.requires.lines answer c.requires.none_pending c.requires.made tests first
+    infeasible c.built_law.ensures.holds a tests c.counting_claims_law.ensures c.known_valid.ensures _ lines parts
+    c.class.ensures c.requires.lines answer c.requires.none_pending refl c.requires.made c.requires.decidable first

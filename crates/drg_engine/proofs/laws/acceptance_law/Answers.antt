@@ -1,5 +1,5 @@
-use Rattle.drg_engine.proofs.Evidence.{by_counts}
+use Rattle.drg_engine.proofs.Evidence.{accepted}
 use Rattle.drg_engine.proofs.laws.acceptance_law.Goals as goal
 
 pub returns : goal.returns
-returns c = λ derivation shows. c.counts_law.ensures.accepted derivation (by_counts derivation shows)
+returns c = accepted c.counts_law.ensures.accepted c.mult_law.ensures.accepted
