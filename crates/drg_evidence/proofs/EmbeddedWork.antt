@@ -1,15 +1,15 @@
 -- What fits in the field of a root fits by its values a + b √root.
-use Rattle.std.proofs.Common.{◌≡◌, ℕ, zero, suc, ◌+◌, Bool, true, false, List, [], ◌∷◌, map, refl, sym, ap, ap₂, ◌∙◌, subst, arith, inl, inr, pos}
-use Rattle.std.specs.Prelude.{◌⊎◌, ◌&&◌, nat_lt, if◌then◌else◌}
+use Rattle.std.proofs.Common.{◌≡◌, ℕ, zero, suc, ◌+◌, Bool, true, false, map, refl, sym, ap, ap₂, ◌∙◌, subst, pos}
+use Rattle.std.specs.Prelude.{◌&&◌, nat_lt, if◌then◌else◌}
 use Rattle.std.specs.List.{range_with_len}
 use Rattle.drg_algebra.specs.Rational.{ℚ, whole}
-use Rattle.drg_algebra.proofs.Tests.{and-in, both, decided}
+use Rattle.drg_algebra.proofs.Tests.{and-in, both}
 use Rattle.drg_array.specs.Entries.{Entries, a_at, b_at, c_at, diameter}
 use Rattle.drg_fraction.specs.Field.{dot_fits, dot_fits_from}
 use Rattle.drg_fraction.specs.Operations.{Operations}
 use Rattle.drg_fraction.specs.Rationals.{rational_operations}
 use Rattle.drg_matrices.specs.Fits.{first_terms_fit, last_term_fits, recurrence_fits}
-use Rattle.drg_matrices.specs.Formulas.{first_terms, row_of}
+use Rattle.drg_matrices.specs.Formulas.{first_terms}
 use Rattle.drg_matrices.specs.Values.{a_value, b_value, c_value}
 use Rattle.drg_quadratic.specs.Operations.{value_operations}
 use Rattle.drg_quadratic.specs.Values.{Value, plus, rational, times}

@@ -1,9 +1,8 @@
 -- What fits has parts in range, and sums and products with nil fit.
-use Rattle.std.proofs.Common.{◌≡◌, ◌^◌, ◌<◌, ℕ, Bool, true, false, refl, sym, ap, ap₂, ◌∙◌, subst, arith, ℤ, pos}
+use Rattle.std.proofs.Common.{◌≡◌, ◌^◌, ◌<◌, ℕ, true, refl, sym, ap, ap₂, ◌∙◌, subst, arith, ℤ, pos}
 use Rattle.std.specs.Prelude.{◌+ℤ◌, ◌*ℤ◌, ◌<ℤ◌, ◌&&◌, unsigned_abs}
-use Rattle.drg_algebra.specs.Ring.{◌⊕◌, ◌⊗◌, neg, none, ring2, ring3}
+use Rattle.drg_algebra.specs.Ring.{◌⊕◌, ◌⊗◌, neg, none, ring3}
 use Rattle.drg_algebra.specs.Integer.{integers, above_times, ring6}
-use Rattle.drg_algebra.specs.Pairs.{pair_path}
 use Rattle.drg_algebra.specs.Rational.{ℚ, whole, rationals, times, plus}
 use Rattle.drg_algebra.specs.Ratio.{ratio, ratio_same, times_ratio, plus_ratio}
 use Rattle.drg_algebra.specs.Reduced.{numerator, denominator, denominator_above, common, top, bottom, top_is, bottom_is, bottom_above, ratio_of_parts}

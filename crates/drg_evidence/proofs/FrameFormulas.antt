@@ -1,9 +1,9 @@
 -- The cosines, the multiplicities and the entries of P and Q of a frame are those of their formulas.
-use Rattle.std.proofs.Common.{◌≡◌, ℕ, zero, suc, ◌+◌, ◌<◌, ◌≤◌, Bool, true, false, refl, sym, ap, ap₂, ◌∙◌, subst, arith, inl, inr, ℤ, pos}
+use Rattle.std.proofs.Common.{◌≡◌, ℕ, zero, suc, ◌<◌, ◌≤◌, true, refl, sym, ap, ap₂, ◌∙◌, subst, arith, ℤ, pos}
 use Rattle.std.specs.Prelude.{◌<ℤ◌, nat_lt, if◌then◌else◌}
 use Rattle.std.proofs.lemmas.Bool.Decides.{nat_tests}
 use Rattle.std.proofs.lemmas.Int.{ints}
-use Rattle.drg_algebra.specs.Ring.{none, one, ◌⊕◌, ◌⊗◌, neg, ring2, ring3, ring4}
+use Rattle.drg_algebra.specs.Ring.{none, ◌⊕◌, ◌⊗◌, neg, ring2, ring3, ring4}
 use Rattle.drg_algebra.specs.Rational.{whole}
 use Rattle.drg_algebra.specs.Tables.{total}
 use Rattle.drg_algebra.proofs.Totals.{same_sum, scale_sum}

@@ -1,22 +1,20 @@
 -- The numbers of values are field numbers in lowest terms, and stand for the values.
-use Rattle.std.proofs.Common.{◌≡◌, ℕ, zero, suc, ◌+◌, ◌*◌, ◌<◌, ◌≤◌, Bool, true, false, List, [], ◌∷◌, ◌++◌, length, map, refl, sym, ap, ap₂, ◌∙◌, subst, arith, inl, inr, ℤ, pos}
-use Rattle.std.specs.Prelude.{◌&&◌, not, nat_eq, nat_lt, int_lt, ◌<ℤ◌, ◌^◌, unsigned_abs, slice_index_or, if◌then◌else◌}
+use Rattle.std.proofs.Common.{◌≡◌, ℕ, zero, suc, ◌+◌, ◌*◌, ◌<◌, ◌≤◌, true, List, [], ◌∷◌, length, refl, sym, ap₂, ◌∙◌, subst, arith, inl, inr, ℤ, pos}
+use Rattle.std.specs.Prelude.{◌&&◌, not, int_lt, ◌<ℤ◌}
 use Rattle.std.specs.Ordering.{int_eq}
-use Rattle.std.specs.List.{range_with_len}
 use Rattle.std.proofs.lemmas.Bool.Decides.{nat_tests, Decides-int_eq}
 use Rattle.std.proofs.lemmas.Int.{ints}
 use Rattle.std.proofs.lemmas.List.{get_or_past}
 use Rattle.drg_algebra.specs.Pairs.{pair_path}
 use Rattle.drg_algebra.specs.Rational.{ℚ, whole}
-use Rattle.drg_algebra.specs.Ratio.{ratio}
-use Rattle.drg_algebra.specs.Reduced.{numerator, denominator, denominator_above, common, ratio_of_parts}
+use Rattle.drg_algebra.specs.Reduced.{numerator, denominator, denominator_above, ratio_of_parts}
 use Rattle.drg_algebra.proofs.RatioLemmas.{parts_are_reduced}
 use Rattle.drg_algebra.proofs.Tests.{and-in, not-in, decided}
 use Rattle.drg_quadratic.specs.Values.{Value, nil, IsOver}
 use Rattle.drg_replay.specs.FieldNumbers.{are_field_numbers, are_lowest, fraction_at, fraction_count, fraction_of, is_lowest, number_at, value_at}
 use Rattle.drg_replay.proofs.StepLaws.{are_same}
 use Rattle.drg_whole.specs.Range.{InRange, in_range}
-use Rattle.drg_evidence.specs.FrameLines.{field_numbers, fraction_numbers, row_numbers}
+use Rattle.drg_evidence.specs.FrameLines.{field_numbers, row_numbers}
 use Rattle.drg_evidence.proofs.FieldWork.{IsShown, AreShown}
 
 -- ---- numbers after the first two

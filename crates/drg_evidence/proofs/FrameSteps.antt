@@ -1,12 +1,10 @@
 -- The conditions of the lines of a frame hold where the numbers are those of a frame whose formulas fit.
-use Rattle.std.proofs.Common.{◌≡◌, ℕ, zero, suc, ◌+◌, ◌<◌, ◌≤◌, Bool, true, false, List, [], ◌∷◌, ◌++◌, length, map, refl, sym, ap, ap₂, ◌∙◌, subst, arith, inl, inr, ℤ, pos}
+use Rattle.std.proofs.Common.{◌≡◌, ℕ, zero, suc, ◌+◌, ◌<◌, ◌≤◌, Bool, true, false, List, [], ◌∷◌, ◌++◌, length, refl, sym, ap, ap₂, ◌∙◌, subst, arith, inl, inr, ℤ, pos}
 use Rattle.std.specs.Prelude.{◌⊎◌, ◌&&◌, nat_lt, if◌then◌else◌}
-use Rattle.std.specs.List.{range_with_len}
 use Rattle.std.specs.declared.cmp.Ordering.TheVariants.{Greater}
 use Rattle.std.proofs.lemmas.Bool.Decides.{nat_tests}
 use Rattle.drg_algebra.specs.Rational.{whole}
 use Rattle.drg_algebra.specs.Ring.{none, ◌⊕◌, ◌⊗◌, ring2}
-use Rattle.drg_algebra.specs.Tables.{delta}
 use Rattle.drg_algebra.proofs.Tests.{both, and-in, decided}
 use Rattle.drg_array.proofs.EntryLemmas.{c-end}
 use Rattle.drg_array.specs.Entries.{Entries, IsArray, diameter, a_at, b_at, c_at}
@@ -19,13 +17,13 @@ use Rattle.drg_quadratic.specs.Laws.{value_laws}
 use Rattle.drg_quadratic.specs.Operations.{value_operations}
 use Rattle.drg_quadratic.specs.Values.{IsOver, IsRoot, Value, nil, unit, plus, minus, times, rational}
 use Rattle.drg_quadratic.specs.Work.{difference_fits, product_fits, sign_fits, sum_fits}
-use Rattle.drg_replay.specs.FieldNumbers.{is_greater, is_same_value, sign_at, value_at}
+use Rattle.drg_replay.specs.FieldNumbers.{is_greater, sign_at, value_at}
 use Rattle.drg_replay.specs.Frames.{begins_row, cell_steps, cells_from, coefficients, column_values, descent_steps, diagonal, line_at, neighbours, product_rows, recurrence_steps, recurrences_from, row_values, theta_at, value_before}
 use Rattle.drg_replay.specs.Known.{FrameContent}
 use Rattle.drg_replay.specs.Rows.{b_before}
 use Rattle.drg_replay.specs.Steps.{EachHolds, Fits, Holds, Step}
 use Rattle.drg_replay.proofs.ValueLaws.{has_sign, one_sign, same_value}
-use Rattle.drg_evidence.proofs.FieldWork.{AreShown, nil_product, nil_with_sum, sum_with_nil, values_product_shown, values_sum_shown}
+use Rattle.drg_evidence.proofs.FieldWork.{nil_product, nil_with_sum, sum_with_nil, values_product_shown, values_sum_shown}
 
 -- ---- steps of two lists
 pub all_hold : (steps rest : List Step) → EachHolds steps → EachHolds rest → EachHolds (steps ++ rest)

@@ -1,11 +1,11 @@
 -- The lines of a frame are met one after the other, and then the frame is known and whole.
-use Rattle.std.proofs.Common.{◌≡◌, ℕ, zero, suc, ◌+◌, ◌<◌, ◌≤◌, Bool, true, false, List, [], ◌∷◌, ◌++◌, length, map, refl, sym, ap, ap₂, ◌∙◌, subst, arith, inl, inr, ℤ, pos, Option, Some, None}
+use Rattle.std.proofs.Common.{◌≡◌, ℕ, zero, suc, ◌+◌, ◌<◌, ◌≤◌, Bool, true, false, List, [], ◌∷◌, ◌++◌, length, map, refl, sym, ap, ap₂, ◌∙◌, subst, arith, inl, inr, ℤ, pos, Some, None}
 use Rattle.std.specs.Prelude.{◌⊎◌, nat_eq, nat_lt, if◌then◌else◌}
 use Rattle.std.specs.List.{range_with_len}
 use Rattle.std.proofs.lemmas.Bool.{cases_lt}
 use Rattle.std.proofs.lemmas.Bool.Decides.{nat_tests}
 use Rattle.drg_algebra.specs.Rational.{whole}
-use Rattle.drg_algebra.specs.Tables.{delta, total}
+use Rattle.drg_algebra.specs.Tables.{delta}
 use Rattle.drg_algebra.proofs.Tests.{and-in, decided}
 use Rattle.drg_array.specs.Claims.{class_of}
 use Rattle.drg_array.specs.Entries.{Entries, IsArray, diameter, a_at, b_at, c_at}
@@ -20,11 +20,10 @@ use Rattle.drg_matrix.specs.Frame.{IsFrame}
 use Rattle.drg_matrices.specs.Fits.{recurrence_fits}
 use Rattle.drg_quadratic.specs.Laws.{value_laws}
 use Rattle.drg_quadratic.specs.Operations.{value_operations}
-use Rattle.drg_quadratic.specs.Values.{IsOver, IsRoot, Value, nil, unit, plus, times, rational}
+use Rattle.drg_quadratic.specs.Values.{IsRoot, Value, nil, plus, times, rational}
 use Rattle.drg_replay.specs.Answers.{progress_of}
 use Rattle.drg_replay.specs.FieldNumbers.{are_field_numbers, value_at}
-use Rattle.drg_replay.specs.Frames.{column_values, diagonal, is_last, is_next, is_spectral, line_at, p_at, product_steps, q_at, recurrences_from, row_values, theta_at}
-use Rattle.drg_replay.specs.Indices.{is_index}
+use Rattle.drg_replay.specs.Frames.{diagonal, is_last, is_next, is_spectral, line_at, p_at, product_steps, q_at, recurrences_from, theta_at}
 use Rattle.drg_replay.specs.Known.{CountContent, FrameContent, KnownContent}
 use Rattle.drg_replay.specs.Lines.{known_after, steps_of}
 use Rattle.drg_replay.specs.Roots.{is_root}
@@ -38,7 +37,7 @@ use Rattle.drg_whole.specs.Sums.{sum_fits_from}
 use Rattle.drg_evidence.specs.FrameLines.{dual_line, eigen_line, field_numbers, frame_lines, lines_from, row_numbers, theta_line}
 use Rattle.drg_evidence.specs.FrameValues.{FrameValues}
 use Rattle.drg_evidence.proofs.FieldWork.{AreShown}
-use Rattle.drg_evidence.proofs.FrameNumbers.{one_value_row, row_is_field_numbers, row_length, value_past, value_there}
+use Rattle.drg_evidence.proofs.FrameNumbers.{one_value_row, row_is_field_numbers, value_there}
 use Rattle.drg_evidence.proofs.FrameSteps.{CellHolds, IsAboveWithin, begins, descent_holds, product_holds, recurrences_hold}
 use Rattle.drg_evidence.proofs.SameRows.{dot_is_sum, same_recurrence, same_row}
 use Rattle.drg_evidence.proofs.StepTests.{none_fails}

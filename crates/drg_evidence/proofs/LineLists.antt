@@ -1,6 +1,6 @@
 -- Evidence lines, and lines one after the other.
 use Rattle.std.proofs.Common.{◌≡◌, ℕ, zero, suc, ◌+◌, ◌-◌, ◌≤◌, List, [], ◌∷◌, ◌++◌, length, append_assoc, sym, subst, ap, ◌∙◌, arith}
-use Rattle.std.specs.Prelude.{ℤ, pos, slice_index_or, ◌==◌}
+use Rattle.std.specs.Prelude.{ℤ, pos, slice_index_or}
 use Rattle.drg_algebra.specs.Rational.{whole}
 use Rattle.drg_array.specs.Entries.{Entries, diameter}
 use Rattle.drg_array.specs.Numbers.{IsIntersectionNumber}

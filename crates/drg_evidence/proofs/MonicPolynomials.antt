@@ -1,5 +1,5 @@
 -- The polynomials of an array are monic.
-use Rattle.std.proofs.Common.{◌≡◌, ℕ, zero, suc, ◌-◌, ◌≤◌, refl, ap, ◌∙◌, subst, arith, ℤ, pos, List, [], ◌∷◌, length, Some}
+use Rattle.std.proofs.Common.{◌≡◌, ℕ, zero, suc, ◌-◌, ◌≤◌, refl, ap, subst, arith, ℤ, pos, List, [], ◌∷◌, length, Some}
 use Rattle.std.specs.Prelude.{neg_ℤ, slice_get}
 use Rattle.drg_algebra.specs.Integer.{whole_numbers}
 use Rattle.drg_array.specs.Entries.{Entries, diameter, a_at}

@@ -1,18 +1,18 @@
 -- A derivation with the lines of a claim of the test mult that the array fails is accepted.
-use Rattle.std.proofs.Common.{◌≡◌, ℕ, zero, suc, ◌+◌, ◌<◌, ◌≤◌, Bool, true, false, List, [], ◌∷◌, length, reverse, Ok, refl, sym, ap, ap₂, ◌∙◌, subst, arith, inl, inr, Some, None, ℤ, pos}
-use Rattle.std.specs.Prelude.{◌⊎◌, ◌&&◌, ◌<ℤ◌, int_lt, not, replicate, slice_index_or}
+use Rattle.std.proofs.Common.{◌≡◌, ℕ, suc, ◌+◌, ◌<◌, true, List, [], ◌∷◌, length, reverse, Ok, refl, sym, ap, ◌∙◌, subst, arith, inl, inr, Some, None, ℤ, pos}
+use Rattle.std.specs.Prelude.{◌&&◌, ◌<ℤ◌, int_lt, not, replicate, slice_index_or}
 use Rattle.std.specs.Ordering.{int_eq}
 use Rattle.std.proofs.lemmas.Bool.Decides.{Decides-int_eq}
 use Rattle.drg_algebra.specs.Pairs.{pair_path}
 use Rattle.drg_algebra.specs.Rational.{rationals, whole}
 use Rattle.drg_algebra.specs.Ratio.{ratio, ratio_one}
-use Rattle.drg_algebra.specs.Reduced.{numerator, denominator, one_value, ratio_of_parts}
+use Rattle.drg_algebra.specs.Reduced.{numerator, denominator, ratio_of_parts}
 use Rattle.drg_algebra.proofs.Tests.{and-in, both, decided, not-in}
 use Rattle.drg_algebra.proofs.WholeParts.{zero_value}
 use Rattle.drg_array.specs.Claims.{class_of}
 use Rattle.drg_array.specs.Conditions.{IsPlace}
 use Rattle.drg_array.specs.Entries.{Entries, IsArray, diameter}
-use Rattle.drg_array.specs.Numbers.{size, vertex_count}
+use Rattle.drg_array.specs.Numbers.{size}
 use Rattle.drg_array.specs.declared.claim.Claim.{Claim}
 use Rattle.drg_array.specs.declared.claim.Claim.TheVariants.{Mult}
 use Rattle.drg_array.specs.declared.claim.Class.TheVariants.{Spectral}
@@ -23,11 +23,10 @@ use Rattle.drg_derivation.specs.declared.line.Line.TheVariants.{K}
 use Rattle.drg_eigen.specs.SplitLaws.{OneSplit}
 use Rattle.drg_intersection.specs.Faults.{AllPass}
 use Rattle.drg_intersection.specs.Fits.{IsInRange}
-use Rattle.drg_matrix.specs.Frame.{multiplicity}
 use Rattle.drg_quadratic.specs.Operations.{value_operations}
 use Rattle.drg_quadratic.specs.Values.{Value, rational}
-use Rattle.drg_replay.specs.Answers.{answer_after, progress_of}
-use Rattle.drg_replay.specs.Claims.{claim_is_met, is_distance, is_positive_whole}
+use Rattle.drg_replay.specs.Answers.{answer_after}
+use Rattle.drg_replay.specs.Claims.{claim_is_met, is_positive_whole}
 use Rattle.drg_replay.specs.Frames.{is_spectral, q_at}
 use Rattle.drg_replay.specs.Known.{CountContent, KnownContent}
 use Rattle.drg_replay.specs.Lines.{known_at_start}
@@ -35,14 +34,13 @@ use Rattle.drg_replay.specs.Claims.{closing_steps}
 use Rattle.drg_replay.specs.Sizes.{is_full}
 use Rattle.drg_replay.specs.Sizes as sizes
 use Rattle.drg_replay.specs.Steps.{EachHolds}
-use Rattle.drg_replay.specs.declared.progress.Progress.TheVariants.{AllMet}
 use Rattle.drg_replay.proofs.StepLaws.{are_same, is_whole_less}
 use Rattle.drg_whole.specs.Sums.{sum_fits_from}
 use Rattle.drg_evidence.specs.FrameLines.{frame_lines}
 use Rattle.drg_evidence.specs.FrameValues.{FrameValues, HasFrame}
-use Rattle.drg_evidence.specs.Laws.{FailsMult, HaveSameValues, MultAccepted}
+use Rattle.drg_evidence.specs.Laws.{FailsMult, MultAccepted}
 use Rattle.drg_evidence.specs.Lines.{AreSizesAndFrame}
-use Rattle.drg_evidence.specs.Made.{AreMade, IsFrameMade}
+use Rattle.drg_evidence.specs.Made.{IsFrameMade}
 use Rattle.drg_evidence.proofs.Closings.{full, vertices}
 use Rattle.drg_evidence.proofs.FrameTaken.{FrameTaken, IsWithinRange, frame_taken, met_line}
 use Rattle.drg_evidence.proofs.OneFrame.{OneOverEach, one_values}

@@ -2,7 +2,6 @@
 use Rattle.std.proofs.Common.{◌≡◌, ℕ, zero, suc, ◌+◌, ◌*◌, ◌^◌, ◌<◌, ◌≤◌, List, [], ◌∷◌, ◌++◌, length, refl, sym, ap, ◌∙◌, subst, arith, ℤ, pos, None}
 use Rattle.std.specs.List.{AllByRecursion}
 use Rattle.drg_array.specs.Entries.{Entries, IsArray, diameter}
-use Rattle.drg_array.specs.declared.claim.Claim.TheVariants.{Mult}
 use Rattle.drg_derivation.specs.Integers.{IsShort}
 use Rattle.drg_derivation.specs.Lines.{AreEvidence, AreShort, IsSuited, after_line, numbers_of}
 use Rattle.drg_derivation.specs.Shapes.{width_of}
@@ -10,11 +9,10 @@ use Rattle.drg_derivation.specs.Text.{context_of}
 use Rattle.drg_derivation.specs.Words.{IsClaim}
 use Rattle.drg_derivation.specs.declared.context.Context.{Context}
 use Rattle.drg_derivation.specs.declared.line.Line.{Line}
-use Rattle.drg_derivation.specs.declared.line.Line.TheVariants.{Frame, K}
+use Rattle.drg_derivation.specs.declared.line.Line.TheVariants.{K}
 use Rattle.drg_eigen.specs.SplitLaws.{OneSplit}
 use Rattle.drg_intersection.specs.Faults.{AllPass}
 use Rattle.drg_quadratic.specs.Values.{Value}
-use Rattle.drg_replay.specs.FieldNumbers.{fraction_count}
 use Rattle.drg_evidence.specs.FrameLines.{dual_line, eigen_line, field_numbers, frame_lines, lines_from, row_numbers, theta_line}
 use Rattle.drg_evidence.specs.FrameValues.{FrameValues}
 use Rattle.drg_evidence.specs.Laws.{MultHasText}

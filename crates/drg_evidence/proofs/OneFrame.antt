@@ -1,17 +1,15 @@
 -- An array has one frame by values, whatever the root, and so one list of its lines.
-use Rattle.std.proofs.Common.{◌≡◌, ℕ, zero, suc, ◌+◌, ◌<◌, ◌≤◌, List, [], ◌∷◌, ◌++◌, map, refl, sym, ap, ap₂, ◌∙◌, subst, arith, ℤ, pos}
-use Rattle.std.specs.List.{range_with_len}
-use Rattle.drg_array.specs.Entries.{Entries, IsArray, diameter}
+use Rattle.std.proofs.Common.{◌≡◌, ℕ, zero, suc, ◌+◌, ◌<◌, ◌∷◌, ◌++◌, refl, sym, ap, ap₂, ◌∙◌, subst, arith, pos}
+use Rattle.drg_array.specs.Entries.{diameter}
 use Rattle.drg_derivation.specs.declared.line.Line.{Line}
 use Rattle.drg_derivation.specs.declared.line.Line.TheVariants.{Frame, Theta, Prow, Qrow}
 use Rattle.drg_eigen.specs.SplitLaws.{OneSplit}
 use Rattle.drg_matrices.specs.Frame.{IsFrameOf, OneFrame}
 use Rattle.drg_quadratic.specs.Operations.{value_operations}
 use Rattle.drg_quadratic.specs.Values.{IsRoot, Value}
-use Rattle.drg_evidence.specs.FrameLines.{dual_line, eigen_line, field_numbers, frame_lines, lines_from, row_numbers, theta_line}
-use Rattle.drg_evidence.specs.FrameValues.{FrameValues, HasFrame}
+use Rattle.drg_evidence.specs.FrameLines.{dual_line, eigen_line, field_numbers, lines_from, row_numbers, theta_line}
 use Rattle.drg_evidence.proofs.OneSpectrum.{one_spectrum}
-use Rattle.drg_evidence.specs.Laws.{HaveSameValues, OneFrameOfValues, OneListOfFrameLines}
+use Rattle.drg_evidence.specs.Laws.{OneFrameOfValues, OneListOfFrameLines}
 
 -- an array has one frame over each root
 abbrev pub OneOverEach : Type 0

@@ -1,9 +1,8 @@
 -- A frame of rationals is a frame of values over root 0.
-use Rattle.std.proofs.Common.{◌≡◌, ℕ, zero, suc, ◌<◌, ◌≤◌, List, [], ◌∷◌, refl, ap, ap₂, sym, ◌∙◌, subst, arith}
-use Rattle.std.specs.Prelude.{pos, map, nat_lt, slice_index_or, if◌then◌else◌, Bool, true, false}
-use Rattle.drg_algebra.specs.Order.{IsAbove, IsPositive}
-use Rattle.drg_algebra.specs.Rational.{ℚ, whole, plus, minus, times}
-use Rattle.drg_algebra.specs.Rational as Rational
+use Rattle.std.proofs.Common.{◌≡◌, ℕ, zero, suc, List, [], ◌∷◌, refl, ap, ap₂, sym, ◌∙◌, subst, arith}
+use Rattle.std.specs.Prelude.{pos, nat_lt, if◌then◌else◌, Bool, true, false}
+use Rattle.drg_algebra.specs.Order.{IsPositive}
+use Rattle.drg_algebra.specs.Rational.{ℚ, whole, plus, minus}
 use Rattle.drg_algebra.specs.Pairs.{pair_path}
 use Rattle.drg_algebra.proofs.Maps.{whole_map}
 use Rattle.drg_algebra.specs.Tables.{delta, total}
@@ -11,13 +10,11 @@ use Rattle.drg_array.specs.Entries.{Entries, diameter, a_at, b_at, c_at}
 use Rattle.drg_fraction.specs.Field.{IsExactField}
 use Rattle.drg_fraction.specs.Rationals.{rational_operations}
 use Rattle.drg_matrices.specs.Frame.{IsFrameOf}
-use Rattle.drg_matrices.specs.Values.{eigenvalue_in, item_at, theta_at}
+use Rattle.drg_matrices.specs.Values.{eigenvalue_in, item_at}
 use Rattle.drg_matrix.specs.Frame.{IsFrame, before, neighbours}
-use Rattle.drg_matrix.specs.Product.{entry}
 use Rattle.drg_quadratic.specs.Laws.{value_laws}
 use Rattle.drg_quadratic.specs.Operations.{value_operations}
 use Rattle.drg_quadratic.specs.Values.{Value, IsRoot, rational}
-use Rattle.drg_quadratic.specs.Values as Values
 use Rattle.drg_quadratic.specs.declared.eigenvalue.Eigenvalue.{Eigenvalue}
 
 zero_is_root : IsRoot 0

@@ -1,5 +1,5 @@
 -- Over root 0 the rational parts of a frame of values meet the equations of a frame of rationals.
-use Rattle.std.proofs.Common.{◌≡◌, ℕ, zero, suc, ◌≤◌, Bool, true, false, refl, sym, ap, ap₂, ◌∙◌, arith, ℤ, pos}
+use Rattle.std.proofs.Common.{◌≡◌, ℕ, zero, suc, Bool, true, false, refl, sym, ap, ap₂, ◌∙◌, pos}
 use Rattle.std.specs.Prelude.{nat_lt, if◌then◌else◌}
 use Rattle.drg_algebra.specs.Ring.{none, ◌⊕◌, ◌⊗◌, neg, ring2}
 use Rattle.drg_algebra.specs.Pairs.{pair_path}

@@ -1,11 +1,11 @@
 -- The root of the spectrum of an array is below 2^32, so that a `frame` line can name it.
-use Rattle.std.proofs.Common.{◌≡◌, ℕ, zero, suc, ◌+◌, ◌*◌, ◌^◌, ◌<◌, ◌≤◌, true, List, [], ◌∷◌, refl, sym, ap, ap₂, ◌∙◌, subst, arith, inl, inr, ℤ, pos, negsuc}
+use Rattle.std.proofs.Common.{◌≡◌, ℕ, zero, suc, ◌+◌, ◌*◌, ◌^◌, ◌<◌, ◌≤◌, true, List, [], ◌∷◌, refl, sym, ap, ◌∙◌, arith, inl, inr, ℤ, pos, negsuc}
 use Rattle.std.specs.Prelude.{◌⊎◌, ◌+ℤ◌, ◌*ℤ◌, neg_ℤ, unsigned_abs, slice_index}
 use Rattle.std.specs.List.{AllByRecursion}
 use Rattle.std.proofs.lemmas.Int.{ints, unsigned_abs-mul}
 use Rattle.drg_array.specs.Entries.{Entries, IsArray, IsEntry, b_at}
 use Rattle.drg_eigen.specs.Characteristic.{characteristic}
-use Rattle.drg_eigen.specs.Factor.{Factor, linear, quadratic, discriminant, IsCandidate, IsIrreducible}
+use Rattle.drg_eigen.specs.Factor.{Factor, linear, quadratic, discriminant, IsCandidate}
 use Rattle.drg_eigen.specs.Spectrum.{IsLinear, IsOver, IsSpectrum}
 use Rattle.drg_quadratic.specs.Values.{IsRoot}
 use Rattle.drg_quadratic.specs.declared.eigenvalue.Eigenvalue.{Eigenvalue}

@@ -4,7 +4,7 @@ use mir.Syntax.{w128}
 use Rattle.drg_derivation.specs.declared.line.Line.TheVariants.{Qrow}
 use Rattle.drg_matrices.specs.Tables.{diameter_of, root_of_tables}
 use Rattle.drg_evidence.specs.FrameLines.{row_numbers}
-use Rattle.drg_evidence.specs.FrameValues.{FrameValues, by_parts, values_of}
+use Rattle.drg_evidence.specs.FrameValues.{by_parts, values_of}
 use Rattle.drg_evidence.proofs.FrameLists.{row_push}
 use Rattle.drg_evidence.proofs.frame.dual_line.Goals as goal
 

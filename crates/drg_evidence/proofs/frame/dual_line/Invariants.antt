@@ -1,7 +1,7 @@
 use Rattle.std.proofs.Common.{◌≡◌}
 use Rattle.drg_matrices.specs.Tables.{root_of_tables}
 use Rattle.drg_evidence.specs.FrameLines.{row_numbers}
-use Rattle.drg_evidence.specs.FrameValues.{FrameValues, values_of}
+use Rattle.drg_evidence.specs.FrameValues.{values_of}
 use Rattle.drg_evidence.proofs.frame.dual_line.Given as goal
 
 abbrev pub invariant-entries : goal.invariant-entries
