@@ -25,6 +25,6 @@ pub judged : {E : Type 0} (a : Entries) (tests : List Test) (result : Result Ver
 judged a tests (Ok v) complete law one array h = record {
   holds = h;
   readable = readable a tests v law one array h;
-  decided = λ none. complete a tests v none h;
+  decided = λ none each. complete a tests v array none each h;
 }
 judged a tests (Err e) complete law one array h = tt

@@ -9,7 +9,7 @@ use Rattle.drg_derivation.specs.Text.{IsDerivationText, derivation_text}
 use Rattle.drg_report.specs.Texts.{report_text}
 use Rattle.drg_report.specs.declared.verdict.Verdict.{Verdict}
 use Rattle.drg_report.specs.declared.verdict.Verdict.TheVariants as verdict
-use Rattle.drg_engine.specs.Laws.{IsDecided, NoneIsWide}
+use Rattle.drg_engine.specs.Laws.{EachIsDecidable, IsDecided, NoneIsWide}
 use Rattle.drg_engine.specs.Verdicts.{VerdictHolds}
 use Rattle.drg_program.specs.declared.status.Status.{Status}
 use Rattle.drg_program.specs.declared.status.Status.TheVariants.{Survivor, Infeasible, RefusedSpectrum, Undecided}
@@ -43,13 +43,14 @@ IsReadable (verdict.Survivor found) = ⊤
 -- A right verdict on the array, where these tests are selected. What a right verdict says stands in specs/Verdicts.antt of
 -- drg_engine. Of an infeasible array it says that the array fails the claim and no claim before it, that its derivation is
 -- accepted with the class that is written, and, where this is the class of counting, that no graph has the array. Of a survivor
--- it says that each test that runs holds, and that these are its numbers. Of an undecided one it says which number is too wide,
--- and that the tests before it hold. Where no number is too wide, the array is infeasible exactly where a test that runs doesn't
--- hold, and else a survivor.
+-- it says that each test that runs holds, that these are its numbers, and that its frame is there where a test asks for it. Of an
+-- undecided one it says which numbers are too wide, and that each test that can be decided holds. Of a refused one it says that no
+-- one quadratic field holds its eigenvalues. Where no number is too wide and one quadratic field holds the eigenvalues, if a test
+-- asks for them, the array is infeasible exactly where a test that runs doesn't hold, and else a survivor.
 pub record IsJudged (a : Entries) (tests : List Test) (verdict : Verdict) : Type 0 where
   pub holds : VerdictHolds a tests verdict
   pub readable : IsReadable verdict
-  pub decided : NoneIsWide a → IsDecided a tests verdict
+  pub decided : NoneIsWide a → EachIsDecidable a tests → IsDecided a tests verdict
 
 -- the status with which a verdict is told
 abbrev pub status_of : Verdict → Status
