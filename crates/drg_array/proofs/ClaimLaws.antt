@@ -153,11 +153,12 @@ always_small test.Size runs = omega arith
 always_small test.Intersect runs = omega arith
 always_small t runs = absurd runs
 
-built_small : (t : Test) → Contains BUILT t → test_number t ≤ 9
-built_small t (zero, less, e) = subst (λ u. test_number u ≤ 9) e (omega arith)
-built_small t (suc zero, less, e) = subst (λ u. test_number u ≤ 9) e (omega arith)
-built_small t (suc (suc zero), less, e) = subst (λ u. test_number u ≤ 9) e (omega arith)
-built_small t (suc (suc (suc k)), less, e) = absurd (omega (arith, less))
+built_small : (t : Test) → Contains BUILT t → test_number t ≤ 10
+built_small t (zero, less, e) = subst (λ u. test_number u ≤ 10) e (omega arith)
+built_small t (suc zero, less, e) = subst (λ u. test_number u ≤ 10) e (omega arith)
+built_small t (suc (suc zero), less, e) = subst (λ u. test_number u ≤ 10) e (omega arith)
+built_small t (suc (suc (suc zero)), less, e) = subst (λ u. test_number u ≤ 10) e (omega arith)
+built_small t (suc (suc (suc (suc k))), less, e) = absurd (omega (arith, less))
 
 known : (t : Test) → test_number t ≤ 10 → Contains REPLAYED (OfTest t)
 known test.First h = (0, omega arith, refl)

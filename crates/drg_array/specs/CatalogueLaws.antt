@@ -26,7 +26,7 @@ OneTestNumber = (t u : Test) → test_number t ≡ test_number u → t ≡ u
 
 -- the tests from handshake on that are built
 abbrev pub AreBuilt : List Test → Type 0
-AreBuilt tests = tests ≡ test.Handshake ∷ test.Induced ∷ test.Triangles ∷ []
+AreBuilt tests = tests ≡ test.Handshake ∷ test.Induced ∷ test.Triangles ∷ test.Mult ∷ []
 
 -- the claims that a replay knows are those that an array fails one of these tests
 abbrev pub AreReplayed : List ClaimName → Type 0

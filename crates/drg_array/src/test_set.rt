@@ -10,7 +10,7 @@ use arrayvec::ArrayVec;
 use std::marker::Model;
 
 /// The tests from handshake on that are built, in their order.
-pub const BUILT: [Test; 3] = [Test::Handshake, Test::Induced, Test::Triangles];
+pub const BUILT: [Test; 4] = [Test::Handshake, Test::Induced, Test::Triangles, Test::Mult];
 
 /// How many tests there are.
 const TESTS: usize = 14;

@@ -260,25 +260,33 @@ fn writes_nodes(rt: HostRuntime) -> Result<(), Fail> {
     Ok(())
 }
 
+/// Which of the built tests are selected.
+fn selected(set: &TestSet) -> [bool; 4] {
+    [
+        set.has(Test::Handshake),
+        set.has(Test::Induced),
+        set.has(Test::Triangles),
+        set.has(Test::Mult),
+    ]
+}
+
 #[test]
 fn reads_lists_of_tests(rt: HostRuntime) -> Result<(), Fail> {
-    let (handshake, induced, triangles) = (Test::Handshake, Test::Induced, Test::Triangles);
     let cases = [
-        ("none", [false, false, false]),
-        ("handshake", [true, false, false]),
-        ("induced", [false, true, false]),
-        ("triangles", [false, false, true]),
-        ("triangles,handshake", [true, false, true]),
-        ("handshake,induced,triangles", [true, true, true]),
+        ("none", [false, false, false, false]),
+        ("handshake", [true, false, false, false]),
+        ("induced", [false, true, false, false]),
+        ("triangles", [false, false, true, false]),
+        ("mult", [false, false, false, true]),
+        ("mult,handshake", [true, false, false, true]),
+        ("handshake,induced,triangles,mult", [true, true, true, true]),
     ];
     for (text, runs) in cases {
         let set = TestSet::read(text).expect(&rt, "a list of tests");
-        assert!(rt; set.has(Test::First) && set.has(Test::Intersect) && !set.has(Test::Mult));
-        let found = [set.has(handshake), set.has(induced), set.has(triangles)];
-        assert_eq!(rt; found, runs, "{text}");
+        assert!(rt; set.has(Test::First) && set.has(Test::Intersect) && !set.has(Test::Krein));
+        assert_eq!(rt; selected(&set), runs, "{text}");
     }
-    let all = TestSet::all();
-    assert!(rt; all.has(handshake) && all.has(induced) && all.has(triangles));
+    assert_eq!(rt; selected(&TestSet::all()), [true, true, true, true]);
     for text in [
         "",
         ",",
@@ -286,7 +294,7 @@ fn reads_lists_of_tests(rt: HostRuntime) -> Result<(), Fail> {
         "none,none",
         "None",
         "none ",
-        "mult",
+        "krein",
         "handshake,handshake",
         "handshake, induced",
         "handshake,",

@@ -135,3 +135,105 @@ passed first degree order cross size\npending intersect wide p 0 11 10\n",
     }
     Ok(())
 }
+
+#[test]
+fn reports_of_mult(rt: HostRuntime) -> Result<(), Fail> {
+    let cases = [
+        // The Petersen graph, with the multiplicities 1, 5, 4.
+        (
+            "{3,2;1,1}",
+            "verdict survivor\narray {3,2;1,1}\npassed first degree order cross size intersect mult\n\
+n 10\nsizes 1 3 6\nroot 0\ntheta 3 1 -2\nP 1 3 6\nP 1 1 -2\nP 1 -2 1\nQ 1 5 4\n\
+Q 1 5/3 -8/3\nQ 1 -5/3 2/3\n",
+        ),
+        // The pentagon.
+        (
+            "{2,1;1,1}",
+            "verdict survivor\narray {2,1;1,1}\npassed first degree order cross size intersect mult\n\
+n 5\nsizes 1 2 2\nroot 5\ntheta 2 -1/2+1/2r5 -1/2-1/2r5\nP 1 2 2\n\
+P 1 -1/2+1/2r5 -1/2-1/2r5\nP 1 -1/2-1/2r5 -1/2+1/2r5\nQ 1 2 2\nQ 1 -1/2+1/2r5 -1/2-1/2r5\n\
+Q 1 -1/2-1/2r5 -1/2+1/2r5\n",
+        ),
+        // The octagon.
+        (
+            "{2,1,1,1;1,1,1,2}",
+            "verdict survivor\narray {2,1,1,1;1,1,1,2}\n\
+passed first degree order cross size intersect mult\nn 8\nsizes 1 2 2 2 1\nroot 2\n\
+theta 2 1r2 0 -1r2 -2\nP 1 2 2 2 1\nP 1 1r2 0 -1r2 -1\nP 1 0 -2 0 1\nP 1 -1r2 0 1r2 -1\n\
+P 1 -2 2 -2 1\nQ 1 2 2 2 1\nQ 1 1r2 0 -1r2 -1\nQ 1 0 -2 0 1\nQ 1 -1r2 0 1r2 -1\n\
+Q 1 -2 2 -2 1\n",
+        ),
+        // The multiplicity m_1 is 8 + (4/13)√13.
+        (
+            "{4,3;1,1}",
+            "drg 1\narray 2 4 3 1 1\nclaim mult 1\nk 1 4 12\nframe 13\ntheta 0 4 1 0 1\n\
+theta 1 -1 2 1 2\ntheta 2 -1 2 -1 2\nprow 0 1 1 0 1 4 1 0 1 12 1 0 1\n\
+prow 1 1 1 0 1 -1 2 1 2 -1 2 -1 2\nprow 2 1 1 0 1 -1 2 -1 2 -1 2 1 2\n\
+qrow 0 1 1 0 1 8 1 4 13 8 1 -4 13\nqrow 1 1 1 0 1 -1 2 25 26 -1 2 -25 26\n\
+qrow 2 1 1 0 1 -1 2 -9 26 -1 2 9 26\nend\nverdict infeasible mult 1 spectral\n",
+        ),
+        // The heptagon.
+        (
+            "{2,1,1;1,1,1}",
+            "verdict refused-spectrum\narray {2,1,1;1,1,1}\n\
+passed first degree order cross size intersect\npending mult spectrum\nfactor -2 1\n\
+rest -1 -2 1 1\n",
+        ),
+        // The Biggs-Smith graph.
+        (
+            "{3,2,2,2,1,1,1;1,1,1,1,1,1,3}",
+            "verdict refused-spectrum\narray {3,2,2,2,1,1,1;1,1,1,1,1,1,3}\n\
+passed first degree order cross size intersect\npending mult spectrum\nfactor -3 1\n\
+factor -2 1\nfactor 0 1\nfactor -4 -1 1\nrest -3 0 3 1\n",
+        ),
+        // Tutte's 12-cage, with the roots of 2 and of 6.
+        (
+            "{3,2,2,2,2,2;1,1,1,1,1,3}",
+            "verdict refused-spectrum\narray {3,2,2,2,2,2;1,1,1,1,1,3}\n\
+passed first degree order cross size intersect\npending mult spectrum\nfactor -3 1\n\
+factor 0 1\nfactor 3 1\nfactor -2 0 1\nfactor -6 0 1\nfirst -2 0 1\nsecond -6 0 1\n",
+        ),
+        // The Hamming graph H(12,250): its last polynomial is too wide.
+        (
+            "{2988,2739,2490,2241,1992,1743,1494,1245,996,747,498,249;1,2,3,4,5,6,7,8,9,10,11,12}",
+            "verdict undecided\n\
+array {2988,2739,2490,2241,1992,1743,1494,1245,996,747,498,249;1,2,3,4,5,6,7,8,9,10,11,12}\n\
+passed first degree order cross size intersect\npending mult wide poly 13\n",
+        ),
+        // The incidence graph of a projective plane of order 2000.
+        (
+            "{2001,2000,2000;1,1,2001}",
+            "verdict survivor\narray {2001,2000,2000;1,1,2001}\n\
+passed first degree order cross size intersect mult\nn 8004002\nsizes 1 2001 4002000 4000000\n\
+root 5\ntheta 2001 20r5 -20r5 -2001\nP 1 2001 4002000 4000000\nP 1 20r5 -1 -20r5\n\
+P 1 -20r5 -1 20r5\nP 1 -2001 4002000 -4000000\nQ 1 4002000 4002000 1\n\
+Q 1 40000r5 -40000r5 -1\nQ 1 -1 -1 1\nQ 1 -2001/100r5 2001/100r5 -1\n",
+        ),
+    ];
+    for (array, report) in cases {
+        let array = Array::read(array.as_bytes())?;
+        let tests = TestSet::read("mult").expect(&rt, "a list of tests");
+        let verdict = judge(rt.alloc(), &array, &tests)?;
+        let text = render(rt.alloc(), &array, &verdict)?;
+        assert_eq!(rt; text.as_slice(), report.as_bytes(), "{report}");
+    }
+    Ok(())
+}
+
+/// The cube of dimension 12: its P and Q have the first row 1, 12, 66, .. and the last one with
+/// alternating signs.
+#[test]
+fn report_of_a_cube(rt: HostRuntime) -> Result<(), Fail> {
+    let cube = Array::read(b"{12,11,10,9,8,7,6,5,4,3,2,1;1,2,3,4,5,6,7,8,9,10,11,12}")?;
+    let tests = TestSet::read("mult").expect(&rt, "a list of tests");
+    let verdict = judge(rt.alloc(), &cube, &tests)?;
+    let text = render(rt.alloc(), &cube, &verdict)?;
+    let start = b"verdict survivor\narray {12,11,10,9,8,7,6,5,4,3,2,1;1,2,3,4,5,6,7,8,9,10,11,12}\n\
+passed first degree order cross size intersect mult\nn 4096\n\
+sizes 1 12 66 220 495 792 924 792 495 220 66 12 1\nroot 0\n\
+theta 12 10 8 6 4 2 0 -2 -4 -6 -8 -10 -12\nP 1 12 66 220 495 792 924 792 495 220 66 12 1\n";
+    let end = b"Q 1 -12 66 -220 495 -792 924 -792 495 -220 66 -12 1\n";
+    assert!(rt; text.as_slice().starts_with(start), "the first lines");
+    assert!(rt; text.as_slice().ends_with(end), "the last line");
+    Ok(())
+}
