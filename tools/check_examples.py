@@ -3,9 +3,10 @@
 
 Usage: python3 tools/check_examples.py
 
-- Each array of examples/graphs is a survivor. The table of examples/README.md gives its array and its
-  number of vertices; the sizes follow from the array. Each file has a row, and each row a file.
-- Each of the nine arrays of examples/fails fails the test of its name first: the report is the file of
+- Each array of examples/graphs has the verdict that the table of examples/README.md gives, with its
+  array and its number of vertices; the sizes follow from the array, and tools/spectrum.py works out the
+  eigenvalues and matrices, or the certificate. Each file has a row, and each row a file.
+- Each of the ten arrays of examples/fails fails the test of its name first: the report is the file of
   that name in examples/derivations and the verdict on its claim. The report is the same where that test
   is the only one selected. Where it is one that can be selected and none is, the array is a survivor.
 - Each derivation, and each such report, is accepted by `drg replay` and by tools/replay.py.
@@ -31,25 +32,29 @@ from pathlib import Path
 from typing import NamedTuple
 
 from make_edges import made
+from spectrum import spectrum_lines
 
 TOP = Path(__file__).resolve().parent.parent
 EXAMPLES = TOP / "examples"
 ALWAYS_RUN = ["first", "degree", "order", "cross", "size", "intersect"]
-SELECTABLE = ["handshake", "induced", "triangles"]
+SELECTABLE = ["handshake", "induced", "triangles", "mult"]
 TESTS = ALWAYS_RUN + SELECTABLE
 # Each array with a number past 2^127-1: the tests that it passed, and the number.
 WIDE = {
     "wide": ("first degree order cross", "size wide k 11"),
     "wide_vertices": ("first degree order cross", "size wide n"),
     "wide_intersection": ("first degree order cross size", "intersect wide p 0 11 10"),
+    "wide_polynomial": (" ".join(ALWAYS_RUN + SELECTABLE[:3]), "mult wide poly 13"),
 }
 COPIES = {"petersen": "graphs", "degree": "fails"}
-ROW = re.compile(r"\| [^|]+ \| `(?P<file>\w+)` \| `(?P<array>\{[\d,;]+\})` \| (?P<n>\d+) \|")
+ROW = re.compile(
+    r"\| [^|]+ \| `(?P<file>\w+)` \| `(?P<array>\{[\d,;]+\})` \| (?P<n>\d+) \| (?P<verdict>[a-z-]+) \|"
+)
 REFUSED_ROW = re.compile(r"\| `(?P<file>\w+)` \| `(?P<answer>(?:rejected|undecided|bad input,)[^`]+)` \|")
 SPECTRAL_ROW = re.compile(r"\| `\{[\d,;]+\}` \| `(?P<file>\w+)` \| `(?P<answer>accepted [^`]+ spectral)` \|")
 EDGES_ROW = re.compile(r"\| [^|]+ \| `(?P<file>\w+)` \| `(?P<answer>(?:array|single|apart|differ|far)\b[^`]*)` \|")
 EXAMPLE = re.compile(r"^\.EX\n\$ (?P<command>.*)\n(?P<printed>(?:.*\n)*?)\.EE$", re.MULTILINE)
-SURVIVOR, INFEASIBLE, UNDECIDED, ACCEPTED, REJECTED, BAD_INPUT = 0, 1, 3, 0, 5, 65
+SURVIVOR, INFEASIBLE, REFUSED, UNDECIDED, ACCEPTED, REJECTED, BAD_INPUT = 0, 1, 2, 3, 0, 5, 65
 CANNOT_BUILD = 70
 # The exit number of an answer that isn't `accepted`, by its first word.
 REFUSED_STATUS = {"rejected": REJECTED, "undecided": UNDECIDED, "bad": BAD_INPUT}
@@ -57,7 +62,7 @@ REFUSED_STATUS = {"rejected": REJECTED, "undecided": UNDECIDED, "bad": BAD_INPUT
 FAULTS = [
     ("$drg", "usage", 64),
     ("$drg check", "usage", 64),
-    ("$drg check --tests mult examples/petersen.txt", "usage", 64),
+    ("$drg check --tests krein examples/petersen.txt", "usage", 64),
     ("$drg check $'\\xff'", "usage", 64),
     ("echo '{3,2;1}' | $drg check /dev/stdin", "bad input, line 1, place 7", BAD_INPUT),
     ("$drg check /dev/null", "bad input, line 1, place 1", BAD_INPUT),
@@ -156,9 +161,18 @@ def sizes(array):
     return k
 
 
-def survivor(array, n, k, passed):
+def survivor(array, n, k, passed, frame=()):
     lines = ["verdict survivor", f"array {array}", "passed " + " ".join(passed), f"n {n}"]
-    return writes(lines + ["sizes " + " ".join(map(str, k))], SURVIVOR)
+    return writes([*lines, "sizes " + " ".join(map(str, k)), *frame], SURVIVOR)
+
+
+def refused_spectrum(array, passed, certificate):
+    lines = ["verdict refused-spectrum", f"array {array}", "passed " + " ".join(passed)]
+    return writes([*lines, "pending mult spectrum", *certificate], REFUSED)
+
+
+def class_of(test):
+    return "spectral" if test == "mult" else "counting"
 
 
 def graph_cases():
@@ -171,7 +185,13 @@ def graph_cases():
         name = f"examples/graphs/{file}.txt"
         yield is_true(f"{name}: is the array of the table", content(f"graphs/{file}") == array + "\n")
         yield is_true(f"examples/README.md: n of {file} is the sum of its sizes", int(row["n"]) == sum(k))
-        yield holds(f"drg check {name}", survivor(array, row["n"], k, TESTS), drg("check", name))
+        lines, multiplicities = spectrum_lines(array)
+        wanted = survivor(array, row["n"], k, TESTS, lines)
+        if multiplicities is None:
+            wanted = refused_spectrum(array, TESTS[:-1], lines)
+        verdict = wanted.out.decode().split("\n", 1)[0].removeprefix("verdict ")
+        yield is_true(f"examples/README.md: the verdict of {file}", row["verdict"] == verdict)
+        yield holds(f"drg check {name}", wanted, drg("check", name))
 
 
 def failing_cases():
@@ -183,7 +203,7 @@ def failing_cases():
         derivation = content(f"derivations/{test}").split("\n")[:-1]
         claim = claim_of(derivation)
         yield is_true(f"examples/derivations/{test}.txt: claims {test}", claim.split(" ")[0] == test)
-        wanted = writes(derivation + [f"verdict infeasible {claim} counting"], INFEASIBLE)
+        wanted = writes(derivation + [f"verdict infeasible {claim} {class_of(test)}"], INFEASIBLE)
         yield holds(f"drg check {name}", wanted, drg("check", name))
         if test in SELECTABLE:
             yield holds(f"drg check --tests {test} {name}", wanted, drg("check", "--tests", test, name))
@@ -206,14 +226,14 @@ def replay_cases():
             report = Path(folder) / f"{test}.txt"
             report.write_bytes(drg("check", f"examples/fails/{test}.txt").out)
             claim = claim_of(content(f"derivations/{test}").split("\n"))
-            wanted = writes([f"accepted {claim} counting"], ACCEPTED)
+            wanted = writes([f"accepted {claim} {class_of(test)}"], ACCEPTED)
             for path in (derivation, report):
                 yield holds(f"drg replay {path}", wanted, drg("replay", path))
                 yield holds(f"tools/replay.py {path}", wanted, other_replayer(path))
 
 
 def spectral_cases():
-    """The derivations that no report has yet, by both replayers, against the table."""
+    """Derivations of class spectral over several roots, by both replayers, against the table."""
     page = (EXAMPLES / "README.md").read_text(encoding="utf-8")
     rows = {row["file"]: row["answer"] for row in SPECTRAL_ROW.finditer(page)}
     same = rows.keys() == names_in("spectral")

@@ -8,7 +8,7 @@ const ROOM: usize = 1000;
 
 /// The report of the Petersen graph's array.
 const PETERSEN: &str =
-    "verdict survivor\narray {3,2;1,1}\npassed first degree order cross size intersect handshake induced triangles\nn 10\nsizes 1 3 6\n";
+    "verdict survivor\narray {3,2;1,1}\npassed first degree order cross size intersect handshake induced triangles mult\nn 10\nsizes 1 3 6\nroot 0\ntheta 3 1 -2\nP 1 3 6\nP 1 1 -2\nP 1 -2 1\nQ 1 5 4\nQ 1 5/3 -8/3\nQ 1 -5/3 2/3\n";
 
 /// The report of `{3,2;1,2}`: 7 vertices with 3 neighbours each.
 const HANDSHAKE: &str =
@@ -34,7 +34,7 @@ const TRIPLE: &str =
     "drg 1\narray 2 6 4 1 4\nclaim triple 1 1 1\np 1 1 1 1 4\np 1 2 0 4 2\neq 1 1 2\nmiss 0\nend\n";
 
 /// Each with the report and with what the report is replayed as.
-const INFEASIBLE: [(&str, &str, &str); 9] = [
+const INFEASIBLE: [(&str, &str, &str); 10] = [
     (
         "{3,2;2,1}\n",
         "drg 1\narray 2 3 2 2 1\nclaim first\nend\nverdict infeasible first counting\n",
@@ -81,17 +81,44 @@ const INFEASIBLE: [(&str, &str, &str); 9] = [
         "drg 1\narray 2 5 2 1 1\nclaim triangles 1\nk 1 5 10\np 1 1 1 2 2\nend\nverdict infeasible triangles 1 counting\n",
         "accepted triangles 1 counting\n",
     ),
+    // The eigenvalues are 4 and (-1 ± √13)/2.
+    (
+        "{4,3;1,1}\n",
+        "drg 1\narray 2 4 3 1 1\nclaim mult 1\nk 1 4 12\nframe 13\ntheta 0 4 1 0 1\ntheta 1 -1 2 1 2\ntheta 2 -1 2 -1 2\nprow 0 1 1 0 1 4 1 0 1 12 1 0 1\nprow 1 1 1 0 1 -1 2 1 2 -1 2 -1 2\nprow 2 1 1 0 1 -1 2 -1 2 -1 2 1 2\nqrow 0 1 1 0 1 8 1 4 13 8 1 -4 13\nqrow 1 1 1 0 1 -1 2 25 26 -1 2 -25 26\nqrow 2 1 1 0 1 -1 2 -9 26 -1 2 9 26\nend\nverdict infeasible mult 1 spectral\n",
+        "accepted mult 1 spectral\n",
+    ),
 ];
 
 /// Each with the tests that are selected, where some are named, and with its status and its report.
-const CHECKED: [(&str, &str, Status, &str); 22] = [
+const CHECKED: [(&str, &str, Status, &str); 25] = [
     ("", "{3,2;1,1}\r\n", Status::Survivor, PETERSEN),
     ("", " { 3, 2; 1, 1 } \n", Status::Survivor, PETERSEN),
     (
         "",
         "{3;1}",
         Status::Survivor,
-        "verdict survivor\narray {3;1}\npassed first degree order cross size intersect handshake induced triangles\nn 4\nsizes 1 3\n",
+        "verdict survivor\narray {3;1}\npassed first degree order cross size intersect handshake induced triangles mult\nn 4\nsizes 1 3\nroot 0\ntheta 3 -1\nP 1 3\nP 1 -1\nQ 1 3\nQ 1 -1\n",
+    ),
+    // The pentagon.
+    (
+        "mult",
+        "{2,1;1,1}\n",
+        Status::Survivor,
+        "verdict survivor\narray {2,1;1,1}\npassed first degree order cross size intersect mult\nn 5\nsizes 1 2 2\nroot 5\ntheta 2 -1/2+1/2r5 -1/2-1/2r5\nP 1 2 2\nP 1 -1/2+1/2r5 -1/2-1/2r5\nP 1 -1/2-1/2r5 -1/2+1/2r5\nQ 1 2 2\nQ 1 -1/2+1/2r5 -1/2-1/2r5\nQ 1 -1/2-1/2r5 -1/2+1/2r5\n",
+    ),
+    // The heptagon: the eigenvalues other than 2 are roots of x³ + x² - 2x - 1.
+    (
+        "",
+        "{2,1,1;1,1,1}\n",
+        Status::RefusedSpectrum,
+        "verdict refused-spectrum\narray {2,1,1;1,1,1}\npassed first degree order cross size intersect handshake induced triangles\npending mult spectrum\nfactor -2 1\nrest -1 -2 1 1\n",
+    ),
+    // A search that tries each factor would take hours.
+    (
+        "mult",
+        "{2001,2000,2000;1,1,2001}\n",
+        Status::Survivor,
+        "verdict survivor\narray {2001,2000,2000;1,1,2001}\npassed first degree order cross size intersect mult\nn 8004002\nsizes 1 2001 4002000 4000000\nroot 5\ntheta 2001 20r5 -20r5 -2001\nP 1 2001 4002000 4000000\nP 1 20r5 -1 -20r5\nP 1 -20r5 -1 20r5\nP 1 -2001 4002000 -4000000\nQ 1 4002000 4002000 1\nQ 1 40000r5 -40000r5 -1\nQ 1 -1 -1 1\nQ 1 -2001/100r5 2001/100r5 -1\n",
     ),
     // k_10 = 4095·4094^9 is below 2^120, and the product of k_10 and b_10 is above 2^127.
     (
@@ -119,7 +146,7 @@ const CHECKED: [(&str, &str, Status, &str); 22] = [
         Status::BadInput { line: 1, at: 5 },
         "",
     ),
-    // The array {3,2;1,2} fails each of the three tests that can be selected.
+    // The array {3,2;1,2} fails each of the tests that can be selected.
     (
         "none",
         "{3,2;1,2}\n",
@@ -361,7 +388,7 @@ fn words_that_are_no_command(rt: HostRuntime) -> Result<(), Fail> {
         &["check", "--json", "f"],
         &["check", "--tests", "handshake"],
         &["check", "--tests", "handshake,handshake", "f"],
-        &["check", "--tests", "mult", "f"],
+        &["check", "--tests", "krein", "f"],
         &["check", "--tests", "", "f"],
         &["check", "f", "--tests", "none"],
         &["check", "--tests", "none", "-f"],
