@@ -41,7 +41,6 @@ pub(crate) enum SpectraFault {
 
 impl From<EigenFault> for SpectraFault {
     ghost use Rattle.std.specs.Prelude.{◌≡◌};
-    ghost use Rattle.drg_evidence.specs.Lines.{AreLinesOf};
     ghost use Rattle.drg_engine.specs.SpectraFaults.{of_eigen};
 
     ghost from_gives = { λ cause fault. fault ≡ of_eigen cause };
@@ -56,7 +55,6 @@ impl From<EigenFault> for SpectraFault {
 
 impl From<FrameFault> for SpectraFault {
     ghost use Rattle.std.specs.Prelude.{◌≡◌};
-    ghost use Rattle.drg_evidence.specs.Lines.{AreLinesOf};
     ghost use Rattle.drg_engine.specs.SpectraFaults.{of_frame};
 
     ghost from_gives = { λ cause fault. fault ≡ of_frame cause };
