@@ -1,13 +1,21 @@
-use Rattle.std.proofs.Common.{ℕ, List, subst}
+use Rattle.std.proofs.Common.{◌≡◌, ◌⊎◌, ℕ, List, subst}
 use Rattle.drg_outside.specs.Causes.{Rose}
-use Rattle.drg_program.specs.Input.{AreInputOf, IsToldInput}
+use Rattle.drg_program.specs.Input.{AreInputOf, IsFileMissing, IsToldInput}
 use Rattle.drg_program.specs.Run.{Answers, Decides}
 use Rattle.drg_program.specs.Words.{file_of, words_of}
 use Rattle.drg_program.specs.declared.command.Command.{Command}
+use Rattle.drg_program.specs.declared.status.Status.TheVariants.{OpenFault, Memory}
 use Rattle.drg_program.proofs.InputLemmas.{input_is_there, same_input}
 use Rattle.drg_program.proofs.RunLemmas.{decided}
 use Rattle.drg_program.proofs.WordLemmas.{of_each_command}
 use Rattle.drg_program.proofs.run.Goals as goal
+
+pub returns-in-Some-clause-missing : goal.returns-in-Some-clause-missing
+returns-in-Some-clause-missing g c = λ command is.
+    of_each_command (words_of c.args.words.now)
+    (λ (other : Command). IsFileMissing (g.I.Inputs.files c.args.inputs.now) (file_of other)
+    → (c.carry_out.result ≡ OpenFault) ⊎ (c.carry_out.result ≡ Memory))
+    c.in-Some.command command c.in-Some.ensures.found is c.carry_out.ensures.missing
 
 pub returns-in-Some-clause-answer : goal.returns-in-Some-clause-answer
 returns-in-Some-clause-answer g c = λ command is.
