@@ -8,7 +8,7 @@ pub mod FactorProducts
 mod Quotients
 mod Numerators
 mod FullProducts
-mod Coefficients
+pub mod Coefficients
 mod Ranges
 mod Formula
 mod OneCause
@@ -33,7 +33,7 @@ mod SortedRoots
 mod SplitTrials
 mod SplitAnswers
 mod OneSplitFault
-mod OneSplit
+pub mod OneSplit
 mod SimpleProducts
 mod MadePolynomials
 mod SumTrials

@@ -1,20 +1,20 @@
-mod Fields
+pub mod Fields
 mod Orthogonal
 mod Recurrences
-mod Sums
-mod Frames
-mod Spectra
-mod Uniqueness
+pub mod Sums
+pub mod Frames
+pub mod Spectra
+pub mod Uniqueness
 mod Filled
 mod Items
 mod Lists
 mod FirstFaults
 mod CosineRows
-mod TableRows
+pub mod TableRows
 mod Answering
 mod Multiplicities
 mod SquareSums
-mod RecurrenceTests
+pub mod RecurrenceTests
 mod ProductCells
 mod FormulaFrames
 mod FaultLaws
