@@ -1,4 +1,5 @@
 pub mod Orderings
 pub mod PPolynomial
+pub mod QPolynomial
 pub mod Search
 pub mod Laws

@@ -2,9 +2,12 @@
 
 ghost use Rattle.std.specs.Prelude.{◌≡◌, ℕ, ◌≤◌, ◌↔◌, IsTrue};
 ghost use Rattle.drg_orderings.specs.PPolynomial.{IsZeroNumber};
+ghost use Rattle.drg_orderings.specs.QPolynomial.{IsZeroParameter};
 
 use drg_array::MAX_DIAMETER;
+use drg_fraction::Field;
 use drg_intersection::Numbers;
+use drg_krein::Krein;
 
 /// A table with an entry for any three indices from 0 to d.
 pub(crate) trait ZeroTable {
@@ -38,5 +41,20 @@ impl ZeroTable for Numbers {
 
     fn is_zero(&self, h: usize, i: usize, j: usize) -> bool {
         self.p(h, i, j) == 0
+    }
+}
+
+/// The Krein parameters q^h_ij.
+impl<F: Field> ZeroTable for Krein<F> {
+    ghost diameter = { λ krein. krein.d };
+
+    ghost IsZero = { IsZeroParameter F.value F.operations };
+
+    fn greatest(&self) -> usize {
+        self.d()
+    }
+
+    fn is_zero(&self, h: usize, i: usize, j: usize) -> bool {
+        self.q(i, j, h).is_zero()
     }
 }
