@@ -1,1 +1,6 @@
 mod FirstFailures
+mod Segments
+mod RunningSums
+mod MultiplicitySums
+mod BoundSigns
+mod IndexOrders

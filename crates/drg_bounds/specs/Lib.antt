@@ -1,1 +1,6 @@
 pub mod Multiplicities
+pub mod KreinSigns
+pub mod Signs
+pub mod AbsoluteBound
+pub mod AbsoluteFits
+pub mod Totals
