@@ -1,0 +1,9 @@
+pub mod Parts
+pub mod Sums
+pub mod Moduli
+pub mod Tables
+pub mod Closings
+pub mod Lines
+pub mod Answers
+pub mod Findings
+pub mod Leaves

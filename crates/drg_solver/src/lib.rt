@@ -1,0 +1,33 @@
+//! The search for solutions of a system of equations between triple intersection numbers.
+//!
+//! [`solve`] searches the room of a system depth first. It gives a solution; or the lines of a
+//! derivation that close every branch, so that the system has no solution; or, where its budget of
+//! branches is spent, the splits that it made. A branch is the whole room or one side of a split, and
+//! its room, a leaf, stays as it is until it closes or is divided.
+//!
+//! A leaf closes in one step where an equation misses, fails modulo some number, or where two
+//! equations leave an unknown no value. [`solve`] divides no leaf that closes so.
+//!
+//! What the answers mean stands in `specs/Answers.antt`: the lines of a closing by the rules of
+//! drg_rooms, the splits of a search that is spent by the live splits of drg_linear.
+#![tactic(auto)]
+
+mod closing;
+mod finding;
+mod leaf;
+mod lines;
+mod modulus;
+mod one_step;
+mod outcome;
+mod search;
+mod sums;
+mod table;
+mod values;
+
+pub use outcome::Outcome;
+pub use search::solve;
+
+#[cfg(test)]
+mod systems;
+#[cfg(test)]
+mod tests;
