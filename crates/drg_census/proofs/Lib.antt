@@ -1,0 +1,13 @@
+pub mod Small
+pub mod Fitting
+pub mod Ascending
+pub mod Entering
+pub mod Gathering
+pub mod Cuts
+pub mod Deciding
+pub mod Sizes
+pub mod StepLists
+pub mod NonzeroBrackets
+pub mod ClassicalLaws
+pub mod Composed
+pub mod RowLists
