@@ -31,7 +31,7 @@ AreBuilt tests = tests ≡ test.Handshake ∷ test.Induced ∷ test.Triangles �
 -- the claims that a replay knows are those that an array fails one of these tests
 abbrev pub AreReplayed : List ClaimName → Type 0
 AreReplayed names =
-    names ≡ map OfTest (test.First ∷ test.Degree ∷ test.Order ∷ test.Cross ∷ test.Size ∷ test.Intersect ∷ test.Handshake ∷ test.Induced ∷ test.Triangles ∷ test.Mult ∷ [])
+    names ≡ map OfTest (test.First ∷ test.Degree ∷ test.Order ∷ test.Cross ∷ test.Size ∷ test.Intersect ∷ test.Handshake ∷ test.Induced ∷ test.Triangles ∷ test.Mult ∷ test.Triple ∷ [])
 
 -- a replay knows the claims of each test that runs
 abbrev pub BuiltAreReplayed : Type 0

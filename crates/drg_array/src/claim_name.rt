@@ -15,7 +15,7 @@ pub enum ClaimName {
 }
 
 /// The claims that a replay knows. Their tests needn't be built yet.
-pub const REPLAYED: [ClaimName; 10] = [
+pub const REPLAYED: [ClaimName; 11] = [
     ClaimName::OfTest(Test::First),
     ClaimName::OfTest(Test::Degree),
     ClaimName::OfTest(Test::Order),
@@ -26,6 +26,7 @@ pub const REPLAYED: [ClaimName; 10] = [
     ClaimName::OfTest(Test::Induced),
     ClaimName::OfTest(Test::Triangles),
     ClaimName::OfTest(Test::Mult),
+    ClaimName::OfTest(Test::Triple),
 ];
 
 impl ClaimName {

@@ -56,9 +56,9 @@ pub record IsWithinRange (a : Entries) (f : FrameValues) : Type 0 where
       → dot_fits (value_operations f.root) (map (f.eigen i) (range_with_len 0 (suc (diameter a)))) (map (λ r. f.dual r j) (range_with_len 0 (suc (diameter a)))) ≡ true
 
 -- a line whose conditions hold is met
-pub met_line : (a : Entries) (claim : Claim) (earlier : List Line) (line : Line) (k : KnownContent) → progress_of a claim earlier ≡ AllMet k → EachHolds (steps_of k line)
-    → progress_of a claim (line ∷ earlier) ≡ AllMet (known_after line k)
-met_line a claim earlier line k met holds = rw (met, none_fails (steps_of k line) holds) refl
+pub met_line : (a : Entries) (claim : Claim) (earlier : List Line) (line : Line) (k : KnownContent) → progress_of a claim earlier ≡ AllMet k → k.rooms ≡ None
+    → EachHolds (steps_of k line) → progress_of a claim (line ∷ earlier) ≡ AllMet (known_after line k)
+met_line a claim earlier line k met bare holds = rw (met, bare, none_fails (steps_of k line) holds) refl
 
 pub onto_append : (xs ys earlier : List Line) → onto (xs ++ ys) earlier ≡ onto ys (onto xs earlier)
 onto_append [] ys earlier = refl
@@ -99,7 +99,7 @@ module _ (a : Entries) (array : IsArray a) (claim : Claim) (counts : CountConten
   content ts ps qs = record { root = f.root; theta = ts; p = ps; q = qs }
 
   abbrev known : List (List ℤ) → List (List ℤ) → List (List ℤ) → KnownContent
-  known ts ps qs = record { array = a; claim = claim; counts = counts; frame = Some (content ts ps qs) }
+  known ts ps qs = record { array = a; claim = claim; counts = counts; frame = Some (content ts ps qs); rooms = None }
 
   abbrev Thetas : List (List ℤ) → Type 0
   Thetas = Rows f.root 1 (λ t l. f.theta t)
@@ -150,7 +150,7 @@ module _ (a : Entries) (array : IsArray a) (claim : Claim) (counts : CountConten
       (theta_lowest i inside, (next_test a i ts inside e, descent_holds (content ts [] []) w.root (length ts) (value_at f.root numbers 0) (theta_above ts i rows e inside))) in
       thetas_taken n (i + 1) (ts ++ numbers ∷ []) (theta_line d f i ∷ earlier) (omega (arith, e, more)) (omega (arith, all))
       (rows_more f.root 1 (λ t l. f.theta t) ts numbers i e rows (λ l less. (let first : l ≡ 0 = omega (arith, less) in ap (value_at f.root numbers) first ∙ theta_value i inside)))
-      (met_line a claim earlier (theta_line d f i) (known ts [] []) met holds)
+      (met_line a claim earlier (theta_line d f i) (known ts [] []) met refl holds)
 
   -- ---- prow
   side_is : suc d ≡ d + 1
@@ -214,7 +214,7 @@ module _ (a : Entries) (array : IsArray a) (claim : Claim) (counts : CountConten
       ) in
       eigens_taken ts full thetas n (i + 1) (ps ++ numbers ∷ []) (eigen_line d f i ∷ earlier) (omega (arith, e, more)) (omega (arith, all))
       (rows_more f.root (suc d) f.eigen ps numbers i e rows (eigen_value i inside))
-      (met_line a claim earlier (eigen_line d f i) (known ts ps []) met holds)
+      (met_line a claim earlier (eigen_line d f i) (known ts ps []) met refl holds)
 
   -- ---- qrow
   dual_value : (r : ℕ) → r ≤ d → (l : ℕ) → l < suc d → value_at f.root (row_numbers f.root (f.dual r) 0 (suc d)) l ≡ f.dual r l
@@ -286,13 +286,13 @@ module _ (a : Entries) (array : IsArray a) (claim : Claim) (counts : CountConten
         let holds : EachHolds (steps_of (known ts ps qs) (dual_line d f r)) =
         (dual_lowest r inside, (are_same _ _ (omega (arith, full_p)), (next_test a r qs inside e, last_steps ts ps qs numbers full_p eigens next (is_last a qs) refl))) in
         duals_taken ts ps full_p eigens n (r + 1) (qs ++ numbers ∷ []) (dual_line d f r ∷ earlier) (omega (arith, e, more)) (omega (arith, all)) next
-        (met_line a claim earlier (dual_line d f r) (known ts ps qs) met holds)
+        (met_line a claim earlier (dual_line d f r) (known ts ps qs) met refl holds)
 
     -- ---- the whole frame
     -- the frame is known and whole, and has these values
     pub record FrameTaken (lines : List Line) : Type 0 where
       pub written : FrameContent
-      pub met : progress_of a claim lines ≡ AllMet (record { array = a; claim = claim; counts = counts; frame = Some written })
+      pub met : progress_of a claim lines ≡ AllMet (record { array = a; claim = claim; counts = counts; frame = Some written; rooms = None })
       pub root : written.root ≡ f.root
       pub all : length written.q ≡ d + 1
       pub thetas : (i : ℕ) → i ≤ d → theta_at written i ≡ f.theta i
@@ -300,9 +300,9 @@ module _ (a : Entries) (array : IsArray a) (claim : Claim) (counts : CountConten
       pub duals : (r i : ℕ) → r ≤ d → i ≤ d → q_at written r i ≡ f.dual r i
 
     pub frame_taken : is_spectral (class_of claim) ≡ true → (earlier : List Line)
-        → progress_of a claim earlier ≡ AllMet (record { array = a; claim = claim; counts = counts; frame = None }) → FrameTaken (onto (frame_lines d f) earlier)
+        → progress_of a claim earlier ≡ AllMet (record { array = a; claim = claim; counts = counts; frame = None; rooms = None }) → FrameTaken (onto (frame_lines d f) earlier)
     frame_taken spectral earlier met =
-        let begun = met_line a claim earlier (Frame (pos f.root)) (record { array = a; claim = claim; counts = counts; frame = None }) met (refl, (full, (spectral, (w.root_test, tt)))) in
+        let begun = met_line a claim earlier (Frame (pos f.root)) (record { array = a; claim = claim; counts = counts; frame = None; rooms = None }) met refl (refl, (full, (spectral, (w.root_test, tt)))) in
         let first = thetas_taken (suc d) 0 [] (Frame (pos f.root) ∷ earlier) refl (omega arith) (no_rows f.root 1 (λ t l. f.theta t)) begun in
         let second = eigens_taken first.ts first.many first.are (suc d) 0 [] _ refl (omega arith) (no_rows f.root (suc d) f.eigen) first.met in
         let third = duals_taken first.ts second.ps second.many second.are (suc d) 0 [] _ refl (omega arith) (no_rows f.root (suc d) f.dual) second.met in

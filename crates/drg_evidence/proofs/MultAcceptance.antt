@@ -97,14 +97,14 @@ module _ (a : Entries) (array : IsArray a) (pass : AllPass a) (values : List ℤ
       → FrameTaken a array claim counts f w (full a array values here count) sums (vertices a array values here count) (onto (frame_lines (diameter a) f) (K values ∷ []))
   full_frame_taken claim met spectral f w =
       frame_taken a array claim counts f w (full a array values here count) sums (vertices a array values here count) spectral (K values ∷ [])
-      (met_line a claim [] (K values) (known_at_start a claim) (rw met refl) all_sizes)
+      (met_line a claim [] (K values) (known_at_start a claim) (rw met refl) refl all_sizes)
 
   mult_answer : (f : FrameValues) (w : IsWithinRange a f) (i : ℕ) → IsPlace a i → ¬ IsPositiveWhole (value_operations f.root) (f.dual 0 i)
       → answer_after a (Mult i) (onto (frame_lines (diameter a) f) (K values ∷ [])) ≡ Ok Spectral
   mult_answer f w i place broken =
       let met = and-in _ _ (at_most 1 i place.0) (at_most i (diameter a) place.1) in
       let taken = full_frame_taken (Mult i) met refl f w in
-      let k : KnownContent = record { array = a; claim = Mult i; counts = counts; frame = Some taken.written } in
+      let k : KnownContent = record { array = a; claim = Mult i; counts = counts; frame = Some taken.written; rooms = None } in
       let entry : q_at taken.written 0 i ≡ f.dual 0 i = taken.duals 0 i (omega arith) place.1 in
       let closed : EachHolds (closing_steps k) = (are_same _ _ taken.all, (subst (λ x. not (is_positive_whole x) ≡ true) (sym entry) (broken_test f.root (f.dual 0 i) broken), tt)) in
       rw (taken.met, none_fails (closing_steps k) closed) refl

@@ -48,6 +48,7 @@ pub record Taken (a : Entries) (claim : Claim) (h : ℕ) (lines : List Line) (si
   pub rows_are : rows_at (known_of a claim lines).counts.rows h ≡ rows
   pub width : length (known_of a claim lines).counts.rows ≡ suc (diameter a)
   pub plain : (known_of a claim lines).frame ≡ None
+  pub roomless : (known_of a claim lines).rooms ≡ None
 
 not_above : (m n : ℕ) → m ≤ n → int_le (pos m) (pos n) ≡ true
 not_above m n h = by (int_le (pos m) (pos n)) refl where
@@ -66,6 +67,7 @@ module _ (a : Entries) (claim : Claim) (h : ℕ) where
     rows_are = no_rows_at (diameter a + 1) h;
     width = length-replicate (diameter a + 1) [] ∙ omega arith;
     plain = refl;
+    roomless = refl;
   }
 
   pub size_taken : (values : List ℤ) → EachHolds (size_steps a None values) → Taken a claim h [] None [] → Taken a claim h (K values ∷ []) (Some values) []
@@ -75,6 +77,7 @@ module _ (a : Entries) (claim : Claim) (h : ℕ) where
     rows_are = taken.rows_are;
     width = taken.width;
     plain = refl;
+    roomless = refl;
   }
 
   row_taken : (earlier : List Line) (sizes : Option (List ℤ)) (rows : List (List ℤ)) (values : List ℤ) → h ≤ diameter a → length rows < diameter a
@@ -90,12 +93,13 @@ module _ (a : Entries) (claim : Claim) (h : ℕ) where
       subst (λ b. S b (rows_at k.counts.rows h) (suc (length rows) - 1)) (sym (array_stays a claim earlier))
       (subst (λ r. S a r (suc (length rows) - 1)) (sym taken.rows_are) (subst (S a rows) (sym back) here)) in
       record {
-        met = rw (taken.met, none_fails (steps_of k (P (pos h) (pos (suc (length rows))) values)) steps) refl;
+        met = rw (taken.met, taken.roomless, none_fails (steps_of k (P (pos h) (pos (suc (length rows))) values)) steps) refl;
         sizes_are = taken.sizes_are;
         rows_are = get_or-set_same k.counts.rows h (rows_at k.counts.rows h ++ values ∷ []) [] (let wide = taken.width in omega (arith, wide, hh))
             ∙ ap (λ r. r ++ values ∷ []) taken.rows_are;
         width = length-set k.counts.rows h _ ∙ taken.width;
         plain = taken.plain;
+        roomless = taken.roomless;
       }
 
   -- lines are taken, and so many rows of h state the numbers q

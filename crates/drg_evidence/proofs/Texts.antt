@@ -12,7 +12,7 @@ use Rattle.drg_array.specs.declared.claim.Claim.TheVariants.{First, Degree, Orde
 use Rattle.drg_array.specs.declared.claim.Class.TheVariants.{Counting}
 use Rattle.drg_array.proofs.EntryLemmas.{c-positive}
 use Rattle.drg_derivation.specs.declared.line.Line.{Line}
-use Rattle.drg_derivation.specs.declared.line.Line.TheVariants.{K, P, Frame, Theta, Prow, Qrow}
+use Rattle.drg_derivation.specs.declared.line.Line.TheVariants.{K, P, Frame, Theta, Prow, Qrow, Eq, Comb, Low, High, Split, Miss, Mod, Void}
 use Rattle.drg_derivation.specs.Integers.{IsShort}
 use Rattle.drg_derivation.specs.Lines.{AreEvidence, AreShort}
 use Rattle.drg_derivation.specs.Shapes.{width_of}
@@ -31,9 +31,12 @@ use Rattle.drg_replay.specs.Lines.{known_of, steps_of}
 use Rattle.drg_replay.specs.Roots.{IsSquarefreeRoot}
 use Rattle.drg_replay.specs.Answers.{AllAreMet, outcome, progress_of}
 use Rattle.drg_replay.proofs.Soundness.{above_zero}
-use Rattle.drg_replay.proofs.ProgressLaws.{accepted, all_are_met, array_stays}
+use Rattle.drg_replay.proofs.ProgressLaws.{accepted, all_are_met, array_stays, claim_stays}
 use Rattle.drg_replay.proofs.RootLaws.{root_found}
-use Rattle.drg_replay.proofs.StepLaws.{each_holds, at_most, is_less, is_same, is_whole_same}
+use Rattle.drg_replay.proofs.LineLaws.{rule_holds, rule_met}
+use Rattle.drg_replay.proofs.UntypedLaws.{roomless, needs_rooms, needs_type}
+use Rattle.drg_replay.specs.Systems.{type_of, eq_steps}
+use Rattle.drg_replay.proofs.StepLaws.{at_most, is_less, is_same, is_whole_same}
 use Rattle.drg_array.specs.Conditions.{CountsFail}
 use Rattle.drg_evidence.specs.Laws.{CountsHaveText}
 use Rattle.drg_evidence.proofs.TakenLines.{onto, all_onto}
@@ -89,10 +92,10 @@ root_short : (root : ℤ) → (root ≡ pos 0) ⊎ IsSquarefreeRoot root → IsS
 root_short root (inl e) = subst IsShort (sym e) (omega arith)
 root_short root (inr r) = (let high = r.high in let short : IsShort (pos r.number) = omega (arith, high) in subst IsShort (sym r.is) short)
 
-stands : (k : KnownContent) → IsArray k.array → k.frame ≡ None → (line : Line) → outcome k line ≡ Ok tt → CanStand k.array line
-stands k array none (K values) met = sizes_stand k.array array _ values (each_holds (steps_of k (K values)) met)
-stands k array none (P h i values) met =
-    let steps = each_holds (steps_of k (P h i values)) met in
+stands : (k : KnownContent) → IsArray k.array → k.frame ≡ None → type_of k.claim ≡ None → k.rooms ≡ None → (line : Line) → outcome k line ≡ Ok tt → CanStand k.array line
+stands k array none untyped bare (K values) met = sizes_stand k.array array _ values (rule_holds k (K values) met)
+stands k array none untyped bare (P h i values) met =
+    let steps = rule_holds k (P h i values) met in
     let small = array.short in
     let d = diameter k.array in
     let count = is_same (length values) (d + 1) steps.1.1.1.1.0 in (
@@ -101,17 +104,26 @@ stands k array none (P h i values) met =
       (index_short 1 i d small steps.1.0).1,
       cells_short k.array (unsigned_abs h) (rows_at k.counts.rows (unsigned_abs h)) (unsigned_abs i - 1) 0 values array (above_zero i d steps.1.0) steps.1.1.1.1.1,
     )
-stands k array none (Frame root) met = root_short root ((root_found root).0 (each_holds (steps_of k (Frame root)) met).1.1.1.0)
-stands k array none (Theta i values) met = needs_frame k.frame (λ f. theta_steps k.array f i values) none met
-stands k array none (Prow i values) met = needs_frame k.frame (λ f. prow_steps k.array f i values) none met
-stands k array none (Qrow r values) met = needs_frame k.frame (λ f. qrow_steps k.array k.counts.sizes f r values) none met
-stands k array none line met = cc
+stands k array none untyped bare (Frame root) met = root_short root ((root_found root).0 (rule_holds k (Frame root) met).1.1.1.0)
+stands k array none untyped bare (Theta i values) met = needs_frame k.frame (λ f. theta_steps k.array f i values) none (rule_met k (Theta i values) met)
+stands k array none untyped bare (Prow i values) met = needs_frame k.frame (λ f. prow_steps k.array f i values) none (rule_met k (Prow i values) met)
+stands k array none untyped bare (Qrow r values) met = needs_frame k.frame (λ f. qrow_steps k.array k.counts.sizes f r values) none (rule_met k (Qrow r values) met)
+stands k array none untyped bare (Eq n x y) met = needs_type (type_of k.claim) (λ ty. eq_steps k.array k.counts.rows ty n x y) untyped (rule_met k (Eq n x y) met)
+stands k array none untyped bare (Comb m values) met = needs_rooms k.rooms (Comb m values) bare (rule_met k (Comb m values) met)
+stands k array none untyped bare (Low r s t v n) met = needs_rooms k.rooms (Low r s t v n) bare (rule_met k (Low r s t v n) met)
+stands k array none untyped bare (High r s t v n) met = needs_rooms k.rooms (High r s t v n) bare (rule_met k (High r s t v n) met)
+stands k array none untyped bare (Split r s t v) met = needs_rooms k.rooms (Split r s t v) bare (rule_met k (Split r s t v) met)
+stands k array none untyped bare (Miss n) met = needs_rooms k.rooms (Miss n) bare (rule_met k (Miss n) met)
+stands k array none untyped bare (Mod n g) met = needs_rooms k.rooms (Mod n g) bare (rule_met k (Mod n g) met)
+stands k array none untyped bare (Void r s t) met = needs_rooms k.rooms (Void r s t) bare (rule_met k (Void r s t) met)
+stands k array none untyped bare line met = let steps = rule_met k line met in cc
 
-all_stand : (a : Entries) (claim : Claim) → IsArray a → is_spectral (class_of claim) ≡ false → (lines : List Line) → AllAreMet a claim lines → AllByRecursion (CanStand a) lines
-all_stand a claim array counting [] met = tt
-all_stand a claim array counting (line ∷ earlier) met =
+all_stand : (a : Entries) (claim : Claim) → IsArray a → is_spectral (class_of claim) ≡ false → type_of claim ≡ None → (lines : List Line) → AllAreMet a claim lines
+    → AllByRecursion (CanStand a) lines
+all_stand a claim array counting typeless [] met = tt
+all_stand a claim array counting typeless (line ∷ earlier) met =
     let here = array_stays a claim earlier in
-    (subst (λ b. CanStand b line) here (stands (known_of a claim earlier) (subst IsArray (sym here) array) (counting_unframed a claim array earlier met.0 counting) line met.1), all_stand a claim array counting earlier met.0)
+    (subst (λ b. CanStand b line) here (stands (known_of a claim earlier) (subst IsArray (sym here) array) (counting_unframed a claim array earlier met.0 counting) (ap type_of (claim_stays a claim earlier) ∙ typeless) (roomless a claim typeless earlier) line met.1), all_stand a claim array counting typeless earlier met.0)
 
 all_in : (Q : Line → Type 0) (lines earlier : List Line) → AllByRecursion Q lines → AllByRecursion Q earlier → AllByRecursion Q (onto lines earlier)
 all_in Q [] earlier here there = there
@@ -163,6 +175,19 @@ counts a (Induced i j) fails = refl
 counts a (Triangles i) fails = refl
 counts a claim fails = absurd fails
 
+-- and none of them is on triples
+untyped : (a : Entries) (claim : Claim) → CountsFail a claim → type_of claim ≡ None
+untyped a First fails = refl
+untyped a (Degree i) fails = refl
+untyped a (Order i) fails = refl
+untyped a (Cross i j) fails = refl
+untyped a (Size i) fails = refl
+untyped a (Intersect h i j) fails = refl
+untyped a (Handshake i) fails = refl
+untyped a (Induced i j) fails = refl
+untyped a (Triangles i) fails = refl
+untyped a claim fails = absurd fails
+
 pub counts_have_text : CountsHaveText
 counts_have_text derivation shows =
     let a = derivation.array in
@@ -171,7 +196,7 @@ counts_have_text derivation shows =
     let answer = answer_is a claim derivation.lines shows.array shows.fails shows.made shows.lines in
     let end = accepted (progress_of a claim lines) Counting (length lines + 4) answer in
     let met = (all_are_met a claim lines end.known end.all_met).0 in
-    let all = all_back (CanStand a) derivation.lines (all_stand a claim shows.array (counts a claim shows.fails) lines met) in
+    let all = all_back (CanStand a) derivation.lines (all_stand a claim shows.array (counts a claim shows.fails) (untyped a claim shows.fails) lines met) in
     record {
       array = shows.array;
       claim = small a claim shows.array shows.fails;

@@ -31,7 +31,8 @@ use Rattle.drg_replay.specs.FieldNumbers.{value_at, is_same_value}
 use Rattle.drg_replay.specs.Frames.{is_spectral, frame_steps, line_at, theta_at, p_at, q_at, is_next, descent_steps, theta_steps, coefficients, value_before, neighbours, recurrence_steps, recurrences_from, begins_row, prow_steps, row_values, column_values, diagonal, cell_steps, cells_from, product_rows, product_steps, is_last, qrow_steps, in_frame}
 use Rattle.drg_replay.specs.Lines.{with_theta, with_prow, with_qrow, frame_after, known_of, steps_of}
 use Rattle.drg_replay.specs.Answers.{AllAreMet}
-use Rattle.drg_replay.proofs.StepLaws.{each_holds, is_same, are_same}
+use Rattle.drg_replay.proofs.LineLaws.{rule_holds}
+use Rattle.drg_replay.proofs.StepLaws.{is_same, are_same}
 use Rattle.drg_replay.proofs.ProgressLaws.{array_stays, claim_stays}
 use Rattle.drg_replay.proofs.SizeLaws.{Sized}
 use Rattle.drg_replay.proofs.CountLaws.{count_is}
@@ -333,19 +334,19 @@ pub frame_known : (a : Entries) (claim : Claim) → IsArray a → (lines : List 
 frame_known a claim array [] met = nothing_framed a claim None
 frame_known a claim array (K values ∷ earlier) met =
     let k = known_of a claim earlier in
-    sizes_framed k.array k.claim k.counts.sizes k.frame values (each_holds (steps_of k (K values)) met.1) (frame_known a claim array earlier met.0)
+    sizes_framed k.array k.claim k.counts.sizes k.frame values (rule_holds k (K values) met.1) (frame_known a claim array earlier met.0)
 frame_known a claim array (Frame root ∷ earlier) met =
-    let k = known_of a claim earlier in begun_framed k root (each_holds (steps_of k (Frame root)) met.1)
+    let k = known_of a claim earlier in begun_framed k root (rule_holds k (Frame root) met.1)
 frame_known a claim array (Theta i numbers ∷ earlier) met =
     let k = known_of a claim earlier in
-    theta_framed k.array k.claim k.counts.sizes k.frame i numbers (each_holds (steps_of k (Theta i numbers)) met.1) (frame_known a claim array earlier met.0)
+    theta_framed k.array k.claim k.counts.sizes k.frame i numbers (rule_holds k (Theta i numbers) met.1) (frame_known a claim array earlier met.0)
 frame_known a claim array (Prow i numbers ∷ earlier) met =
     let k = known_of a claim earlier in
     let here = subst IsArray (sym (array_stays a claim earlier)) array in
-    prow_framed k.array here k.claim k.counts.sizes k.frame i numbers (each_holds (steps_of k (Prow i numbers)) met.1) (frame_known a claim array earlier met.0)
+    prow_framed k.array here k.claim k.counts.sizes k.frame i numbers (rule_holds k (Prow i numbers) met.1) (frame_known a claim array earlier met.0)
 frame_known a claim array (Qrow r numbers ∷ earlier) met =
     let k = known_of a claim earlier in
-    qrow_framed k.array k.claim k.counts.sizes k.frame r numbers (each_holds (steps_of k (Qrow r numbers)) met.1) (frame_known a claim array earlier met.0)
+    qrow_framed k.array k.claim k.counts.sizes k.frame r numbers (rule_holds k (Qrow r numbers) met.1) (frame_known a claim array earlier met.0)
 frame_known a claim array (_ ∷ earlier) met = frame_known a claim array earlier met.0
 
 -- ---- a whole frame

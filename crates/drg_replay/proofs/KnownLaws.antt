@@ -14,7 +14,8 @@ use Rattle.drg_replay.specs.Indices.{is_index}
 use Rattle.drg_replay.specs.Lines.{known_of, steps_of}
 use Rattle.drg_replay.specs.Answers.{AllAreMet}
 use Rattle.drg_replay.specs.Laws.{KnownSizesLaw, IsRow, KnownRowsLaw}
-use Rattle.drg_replay.proofs.StepLaws.{each_holds, at_most, not_at_most}
+use Rattle.drg_replay.proofs.LineLaws.{rule_holds}
+use Rattle.drg_replay.proofs.StepLaws.{at_most, not_at_most}
 use Rattle.drg_replay.proofs.RowLaws.{front, end, length_more, set_at, no_rows_at, two_cases}
 
 -- a line that stands among the earlier ones
@@ -43,7 +44,7 @@ sizes_stand a claim [] values met n less is = absurd (omega arith)
 sizes_stand a claim (K numbers ∷ earlier) values met zero less is = cc
 sizes_stand a claim (K numbers ∷ earlier) values met (suc n) less is =
     let k = known_of a claim earlier in
-    absurd (none_before k.array k.counts.sizes numbers values (each_holds (steps_of k (K numbers)) met.1) (sizes_stand a claim earlier values met.0 n (omega arith) is))
+    absurd (none_before k.array k.counts.sizes numbers values (rule_holds k (K numbers) met.1) (sizes_stand a claim earlier values met.0 n (omega arith) is))
 sizes_stand a claim (_ ∷ earlier) values met zero less is = cc
 sizes_stand a claim (_ ∷ earlier) values met (suc n) less is = sizes_stand a claim earlier values met.0 n (omega arith) is
 
@@ -62,7 +63,7 @@ length_none : (n : ℕ) → length (replicate {A = List (List ℤ)} n []) ≡ n
 length_none zero = refl
 length_none (suc n) = ap suc (length_none n)
 
-all_upper : (a : Entries) (claim : Claim) (lines : List Line) → length (known_of a claim lines).counts.rows ≡ diameter (known_of a claim lines).array + 1
+pub all_upper : (a : Entries) (claim : Claim) (lines : List Line) → length (known_of a claim lines).counts.rows ≡ diameter (known_of a claim lines).array + 1
 all_upper a claim [] = length_none (diameter a + 1)
 all_upper a claim (P g i numbers ∷ earlier) = length_set (known_of a claim earlier).counts.rows (unsigned_abs g) _ ∙ all_upper a claim earlier
 all_upper a claim (_ ∷ earlier) = all_upper a claim earlier
@@ -122,7 +123,7 @@ rows_stated a claim [] h i values met row =
 rows_stated a claim (P g r numbers ∷ earlier) h i values met row =
     let k = known_of a claim earlier in
     let rows = rows_at k.counts.rows (unsigned_abs g) in
-    let steps = each_holds (steps_of k (P g r numbers)) met.1 in
+    let steps = rule_holds k (P g r numbers) met.1 in
     let at = next_row k.array (unsigned_abs g) rows (unsigned_abs r - 1) numbers steps.1.1 in
     let upper = index_is 0 (diameter k.array) g steps.0 in
     let number = index_is 1 (diameter k.array) r steps.1.0 in
@@ -166,7 +167,7 @@ rows_stand : (a : Entries) (claim : Claim) (lines : List Line) (h i : ℕ) (valu
     → slice_index_or lines n (P (pos h) (pos (suc i)) values) ≡ P (pos h) (pos (suc i)) values → IsRow (rows_at (known_of a claim lines).counts.rows h) i values
 rows_stand a claim [] h i values met n less is = absurd (omega arith)
 rows_stand a claim (P g r numbers ∷ earlier) h i values met zero less is =
-    newest_stands a claim earlier g r numbers h i values (each_holds (steps_of (known_of a claim earlier) (P g r numbers)) met.1) is
+    newest_stands a claim earlier g r numbers h i values (rule_holds (known_of a claim earlier) (P g r numbers) met.1) is
 rows_stand a claim (P g r numbers ∷ earlier) h i values met (suc n) less is =
     let k = known_of a claim earlier in
     let rows = rows_at k.counts.rows (unsigned_abs g) in

@@ -1,5 +1,9 @@
 pub mod ProgressLaws
 pub mod StepLaws
+pub mod LineLaws
+pub mod UntypedLaws
+pub mod EquationLaws
+pub mod RoomSteps
 pub mod SizeLaws
 pub mod RowLaws
 pub mod RootLaws
@@ -8,9 +12,10 @@ pub mod AloneLaws
 pub mod PlaceLaws
 pub mod ValueLaws
 pub mod CountLaws
-mod SumLaws
+pub mod SumLaws
 pub mod FrameLaws
 pub mod RationalRootLaws
 pub mod Soundness
+pub mod Covers
 pub mod SpectralLaws
 pub mod ReplayedLaws

@@ -4,7 +4,7 @@ use Rattle.std.specs.Prelude.{Contains, slice_index_or}
 use Rattle.drg_array.specs.Entries.{Entries}
 use Rattle.drg_array.specs.Claims.{name_of}
 use Rattle.drg_array.specs.declared.claim.Claim.{Claim}
-use Rattle.drg_array.specs.declared.claim.Claim.TheVariants.{First, Degree, Order, Cross, Size, Intersect, Handshake, Induced, Triangles, Mult}
+use Rattle.drg_array.specs.declared.claim.Claim.TheVariants.{First, Degree, Order, Cross, Size, Intersect, Handshake, Induced, Triangles, Mult, Triple}
 use Rattle.drg_array.specs.declared.claim_name.ClaimName.{ClaimName}
 use Rattle.drg_array.specs.declared.claim_name.TheConstants.{REPLAYED}
 use Rattle.drg_replay.specs.Claims.{claim_is_met}
@@ -25,6 +25,7 @@ is_known a (Handshake i) h = (6, omega arith, refl)
 is_known a (Induced i j) h = (7, omega arith, refl)
 is_known a (Triangles i) h = (8, omega arith, refl)
 is_known a (Mult i) h = (9, omega arith, refl)
+is_known a (Triple u v w) h = (10, omega arith, refl)
 is_known a _ h = cc
 
 -- there are numbers of an array for which a claim of this name is met
@@ -43,7 +44,8 @@ each_at (suc (suc (suc (suc (suc (suc zero)))))) d h = (petersen, Handshake 1, r
 each_at (suc (suc (suc (suc (suc (suc (suc zero))))))) d h = (petersen, Induced 1 1, refl, refl)
 each_at (suc (suc (suc (suc (suc (suc (suc (suc zero)))))))) d h = (petersen, Triangles 1, refl, refl)
 each_at (suc (suc (suc (suc (suc (suc (suc (suc (suc zero))))))))) d h = (petersen, Mult 1, refl, refl)
-each_at (suc (suc (suc (suc (suc (suc (suc (suc (suc (suc k)))))))))) d h = absurd (omega (arith, h))
+each_at (suc (suc (suc (suc (suc (suc (suc (suc (suc (suc zero)))))))))) d h = (petersen, Triple 1 1 2, refl, refl)
+each_at (suc (suc (suc (suc (suc (suc (suc (suc (suc (suc (suc k))))))))))) d h = absurd (omega (arith, h))
 
 pub replayed : ReplayedLaw
 unfolding CanBeMet

@@ -22,14 +22,16 @@ use Rattle.drg_replay.specs.Steps.{EachHolds, first_failure}
 use Rattle.drg_whole.specs.Residues.{divides}
 use Rattle.drg_replay.specs.Sizes.{size_at, values_of}
 use Rattle.drg_replay.specs.Rows.{rows_at, entry}
+use Rattle.drg_replay.specs.Rooms.{are_closed}
 use Rattle.drg_replay.specs.Indices.{is_index}
 use Rattle.drg_replay.specs.Lines.{known_of, steps_of}
 use Rattle.drg_replay.specs.Claims.{claim_is_met, is_distance, closing_of, closing_steps, size_closing, intersect_closing, handshake_closing, induced_closing, triangles_closing, mult_closing}
 use Rattle.drg_replay.specs.Answers.{AllAreMet, progress_of, accepted_class}
 use Rattle.drg_replay.specs.Laws.{ClassLaw}
-use Rattle.drg_replay.specs.Soundness.{GraphLaw, MetSizesLaw, MetRowsLaw}
+use Rattle.drg_replay.specs.Soundness.{ClosedRoomsLaw, GraphLaw, MetSizesLaw, MetRowsLaw}
 use Rattle.drg_replay.proofs.ProgressLaws.{all_are_met, claim_was_met, array_stays, claim_stays, accepted}
 use Rattle.drg_whole.proofs.Residues.{residue_multiple}
+use Rattle.drg_replay.proofs.LineLaws.{rule_holds}
 use Rattle.drg_replay.proofs.StepLaws.{each_holds, not_met, at_most, is_less, is_same, are_same, is_whole_less}
 use Rattle.drg_replay.proofs.SizeLaws.{Sized, no_sizes, sized, count_is_sum}
 use Rattle.drg_replay.proofs.RowLaws.{Rowed, balance_is, fewer_rows, row_met, set_rowed, first_rowed}
@@ -45,14 +47,14 @@ above_zero (negsuc n) limit h = cc
 pub sizes_known : (a : Entries) (claim : Claim) (lines : List Line) → AllAreMet a claim lines → Sized (known_of a claim lines).array (values_of (known_of a claim lines).counts.sizes)
 sizes_known a claim [] met = no_sizes a
 sizes_known a claim (K values ∷ earlier) met =
-    let k = known_of a claim earlier in sized k.array k.counts.sizes values (each_holds (steps_of k (K values)) met.1)
+    let k = known_of a claim earlier in sized k.array k.counts.sizes values (rule_holds k (K values) met.1)
 sizes_known a claim (_ ∷ earlier) met = sizes_known a claim earlier met.0
 
 pub rows_known : (a : Entries) (claim : Claim) (lines : List Line) → AllAreMet a claim lines → (h : ℕ) → Rowed (known_of a claim lines).array h (rows_at (known_of a claim lines).counts.rows h)
 rows_known a claim [] met h = first_rowed a (diameter a + 1) h
 rows_known a claim (P g i values ∷ earlier) met h =
     let k = known_of a claim earlier in
-    let steps = each_holds (steps_of k (P g i values)) met.1 in
+    let steps = rule_holds k (P g i values) met.1 in
     let old = rows_known a claim earlier met.0 in
     set_rowed k.array k.counts.rows (unsigned_abs g) _ old
     (row_met k.array (unsigned_abs g) (rows_at k.counts.rows (unsigned_abs g)) (unsigned_abs i - 1) values (above_zero i (diameter k.array) steps.1.0) steps.1.1 (old (unsigned_abs g)))
@@ -142,7 +144,7 @@ mult_needs_frame a None i e h = let never : false ≡ true = h.0 in cc
 mult_needs_frame a (Some f) i e h = cc
 
 -- a closed claim excludes every graph of the array in force, where there is no frame
-module _ (laws : Laws) (k : KnownContent) (array : IsArray k.array) (unframed : is_some k.frame ≡ false) where
+module _ (laws : Laws) (k : KnownContent) (array : IsArray k.array) (unframed : is_some k.frame ≡ false) (closes : are_closed k.rooms ≡ true → NoGraph k.array) where
   closed_excludes : (c : Claim) → claim_is_met k.array c ≡ true → EachHolds (closing_of k c) → Sized k.array (values_of k.counts.sizes) → ((h : ℕ) → Rowed k.array h (rows_at k.counts.rows h)) → NoGraph k.array
   closed_excludes claim.First met h sizes rows = laws.first k.array array (not_same _ _ h.0)
   closed_excludes (claim.Degree i) met h sizes rows = (let range = distance k.array i met in laws.degree k.array i array range.0 range.1 (is_whole_less _ _ h.0))
@@ -162,6 +164,7 @@ module _ (laws : Laws) (k : KnownContent) (array : IsArray k.array) (unframed : 
   closed_excludes (claim.Triangles i) met h sizes rows =
       (let range = distance k.array i met in triangles_excludes laws k.array array k.counts.sizes (rows_at k.counts.rows i) i range.0 range.1 h sizes (rows i))
   closed_excludes (claim.Mult i) met h sizes rows = absurd (mult_needs_frame k.array k.frame i unframed h)
+  closed_excludes (claim.Triple u v w) met h sizes rows = closes h.0
   closed_excludes _ met h sizes rows = cc
 
 -- the class is that of counting rules where there is no frame
@@ -175,8 +178,8 @@ counting_unframed false e = refl
 met_in_force : (a : Entries) (c : Claim) (lines : List Line) → claim_is_met a c ≡ true → claim_is_met (known_of a c lines).array (known_of a c lines).claim ≡ true
 met_in_force a c lines h = rw (array_stays a c lines, claim_stays a c lines) h
 
-pub excludes : Laws → GraphLaw
-excludes laws δ array h =
+pub excludes : ClosedRoomsLaw → Laws → GraphLaw
+excludes closes laws δ array h =
     let a = δ.array in
     let c = δ.claim in
     let lines = reverse δ.lines in
@@ -186,7 +189,7 @@ excludes laws δ array h =
     let closed = subst (λ k. first_failure (closing_steps k) ≡ Ok tt) known end.closed in
     let here = array_stays a c lines in
     subst NoGraph here
-    (closed_excludes laws k (subst IsArray (sym here) array) (counting_unframed (is_some k.frame) (end.class_is ∙ ap accepted_class known)) k.claim (met_in_force a c lines (claim_was_met a c lines end.known end.all_met)) (each_holds _ closed) (sizes_known a c lines met)
+    (closed_excludes laws k (subst IsArray (sym here) array) (counting_unframed (is_some k.frame) (end.class_is ∙ ap accepted_class known)) (λ closed. subst NoGraph (sym here) (closes a c lines array met closed)) k.claim (met_in_force a c lines (claim_was_met a c lines end.known end.all_met)) (each_holds _ closed) (sizes_known a c lines met)
     (rows_known a c lines met))
 
 pub class_is : ClassLaw

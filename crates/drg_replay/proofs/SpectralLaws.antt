@@ -75,6 +75,7 @@ says δ array met (claim.Intersect g i j) e h = absurd cc
 says δ array met (claim.Handshake i) e h = absurd cc
 says δ array met (claim.Induced i j) e h = absurd cc
 says δ array met (claim.Triangles i) e h = absurd cc
+says δ array met (claim.Triple u v w) e h = absurd cc
 says δ array met _ e h = let never : false ≡ true = h.0 in absurd cc
 
 pub spectral_holds : SpectralLaw

@@ -16,12 +16,12 @@ use Rattle.drg_replay.specs.declared.answer.ReplayFault.{ReplayFault}
 use Rattle.drg_replay.specs.declared.answer.ReplayFault.TheVariants as answer
 use Rattle.drg_replay.specs.Known.{KnownContent}
 use Rattle.drg_replay.specs.Steps.{Step, first_failure}
-use Rattle.drg_replay.specs.Lines.{known_at_start, known_after, known_of, steps_of}
+use Rattle.drg_replay.specs.Lines.{known_at_start, known_after, known_of, asked_of, steps_of}
 use Rattle.drg_replay.specs.Claims.{claim_is_met, closing_steps}
 
 -- the condition of a line on what is known before it, and what it comes to
 abbrev pub outcome : KnownContent → Line → Result ⊤ Refusal
-outcome k line = first_failure (steps_of k line)
+outcome k line = first_failure (asked_of k line)
 
 -- each of these lines is met after those before it; the newest of them stands first
 abbrev pub AllAreMet : Entries → Claim → List Line → Type 0
@@ -84,3 +84,13 @@ abbrev pub TakesLine : Result ⊤ Fault → Line → KnownContent → KnownConte
 TakesLine (Ok t) line old new = (outcome old line ≡ Ok tt) × (new ≡ known_after line old)
 TakesLine (Err (fault.Refused r)) line old new = (outcome old line ≡ Err r) × (new ≡ old)
 TakesLine (Err fault.Memory) line old new = new ≡ old
+
+-- the same for a call that looks at the rule of the line alone
+abbrev pub FollowsRule : Result ⊤ Fault → Line → KnownContent → KnownContent → Type 0
+FollowsRule result line old new = Takes result (steps_of old line) old (known_after line old) new
+
+-- a call that finds a value where these steps pass
+abbrev pub Makes : {A : Type 0} → Result A Fault → List Step → A → Type 0
+Makes (Ok x) steps made = (first_failure steps ≡ Ok tt) × (x ≡ made)
+Makes (Err (fault.Refused r)) steps made = first_failure steps ≡ Err r
+Makes (Err fault.Memory) steps made = ⊤

@@ -3,12 +3,13 @@
 use Rattle.std.specs.Prelude.{ℕ, suc, ◌+◌, ◌-◌, nat_eq, nat_lt, nat_le, ℤ, pos, int_lt, ◌*ℤ◌, Bool, true, false, ◌&&◌, ◌||◌, not, List, [], ◌∷◌, length, Option}
 use Rattle.drg_array.specs.Entries.{Entries, diameter, b_at, c_at, a_at}
 use Rattle.drg_array.specs.declared.claim.Claim.{Claim}
-use Rattle.drg_array.specs.declared.claim.Claim.TheVariants.{First, Degree, Order, Cross, Size, Intersect, Handshake, Induced, Triangles, Mult}
+use Rattle.drg_array.specs.declared.claim.Claim.TheVariants.{First, Degree, Order, Cross, Size, Intersect, Handshake, Induced, Triangles, Mult, Triple}
 use Rattle.drg_replay.specs.Known.{KnownContent, FrameContent}
 use Rattle.std.specs.Ordering.{int_eq}
 use Rattle.drg_algebra.specs.Reduced.{numerator, denominator}
 use Rattle.drg_quadratic.specs.Values.{Value}
 use Rattle.drg_replay.specs.Frames.{q_at, all_stand, in_frame}
+use Rattle.drg_replay.specs.Rooms.{are_closed}
 use Rattle.drg_replay.specs.Steps.{Step, Holds, Fits, not_built}
 use Rattle.drg_whole.specs.Range.{in_range}
 use Rattle.drg_whole.specs.Residues.{divides}
@@ -32,6 +33,7 @@ claim_is_met a (Handshake i) = is_distance a i
 claim_is_met a (Induced i j) = is_distance a i && is_distance a j
 claim_is_met a (Triangles i) = is_distance a i
 claim_is_met a (Mult i) = is_distance a i
+claim_is_met a (Triple u v w) = is_distance a u && is_distance a v && is_distance a w
 claim_is_met a _ = false
 
 -- b_i < b_(i+1), or c_(i+1) < c_i
@@ -104,6 +106,7 @@ closing_of k (Handshake i) = handshake_closing k.array k.counts.sizes i
 closing_of k (Induced i j) = induced_closing k.array k.counts.sizes (rows_at k.counts.rows i) i j
 closing_of k (Triangles i) = triangles_closing k.array k.counts.sizes (rows_at k.counts.rows i) i
 closing_of k (Mult i) = mult_closing k.array k.frame i
+closing_of k (Triple u v w) = Holds (are_closed k.rooms) ∷ []
 closing_of k _ = not_built
 
 -- what the end asks for the claim in force

@@ -2,6 +2,7 @@
 use Rattle.std.specs.Prelude.{ℕ, ℤ, List, Option}
 use Rattle.drg_array.specs.Entries.{Entries}
 use Rattle.drg_array.specs.declared.claim.Claim.{Claim}
+use Rattle.drg_rooms.specs.Content.{BranchesContent}
 
 -- what the lines `k` and `p` state
 pub record CountContent : Type 0 where
@@ -26,3 +27,5 @@ pub record KnownContent : Type 0 where
   pub counts : CountContent
   -- there from the `frame` line on
   pub frame : Option FrameContent
+  -- the equations and the open branches, there from the first equation of the claim's type on
+  pub rooms : Option BranchesContent

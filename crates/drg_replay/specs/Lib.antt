@@ -8,9 +8,11 @@ pub mod Known
 pub mod Laws
 pub mod Lines
 pub mod RationalRoots
+pub mod Rooms
 pub mod Roots
 pub mod Rows
 pub mod Sizes
 pub mod Soundness
 pub mod Spectral
 pub mod Steps
+pub mod Systems

@@ -1,16 +1,20 @@
 -- What a line asks of what is known before it, and what it makes known.
-use Rattle.std.specs.Prelude.{ℕ, ◌+◌, ◌-◌, ℤ, unsigned_abs, List, [], ◌∷◌, ◌++◌, reverse, replicate, slice_set, Option, Some, None}
+use Rattle.std.specs.Prelude.{ℕ, ◌+◌, ◌-◌, ℤ, unsigned_abs, not, List, [], ◌∷◌, ◌++◌, reverse, replicate, slice_set, Option, Some, None}
 use Rattle.drg_array.specs.Entries.{Entries, diameter}
 use Rattle.drg_array.specs.declared.claim.Claim.{Claim}
 use Rattle.drg_derivation.specs.Content.{Content}
 use Rattle.drg_derivation.specs.declared.line.Line.{Line}
-use Rattle.drg_derivation.specs.declared.line.Line.TheVariants.{K, P, Frame, Theta, Prow, Qrow}
+use Rattle.drg_derivation.specs.declared.line.Line.TheVariants.{K, P, Frame, Theta, Prow, Qrow, Eq, Comb, Low, High, Split, Miss, Mod, Void}
+use Rattle.drg_linear.specs.declared.triple.TripleType.{TripleType}
+use Rattle.drg_rooms.specs.Content.{BranchesContent}
 use Rattle.drg_replay.specs.Known.{KnownContent, CountContent, FrameContent}
 use Rattle.drg_replay.specs.Steps.{Step, Holds, not_built}
 use Rattle.drg_replay.specs.Indices.{is_index}
 use Rattle.drg_replay.specs.Frames.{frame_steps, theta_steps, prow_steps, qrow_steps, in_frame}
 use Rattle.drg_replay.specs.Sizes.{size_steps}
 use Rattle.drg_replay.specs.Rows.{rows_at, row_steps}
+use Rattle.drg_replay.specs.Systems.{type_of, system_at_start, system_of, with_equation, equation_of, for_type, eq_steps}
+use Rattle.drg_replay.specs.Rooms.{room_steps, room_after, are_closed}
 
 -- ---- What a line makes known
 
@@ -44,10 +48,34 @@ frame_after (Prow i numbers) (Some f) = Some (with_prow f numbers)
 frame_after (Qrow r numbers) (Some f) = Some (with_qrow f numbers)
 frame_after _ frame = frame
 
+-- the first equation of a type opens its system
+abbrev pub eq_after
+    : Option TripleType → ℕ → List (List (List ℤ)) → Option BranchesContent → ℤ → ℤ → ℤ
+    → Option BranchesContent
+eq_after None d rows rooms n x y = rooms
+eq_after (Some ty) d rows rooms n x y =
+    Some (with_equation (system_of rooms (system_at_start d rows ty)) (equation_of d rows ty n x y))
+
+abbrev pub rooms_after : Line → KnownContent → Option BranchesContent
+rooms_after (Eq n x y) k =
+    eq_after (type_of k.claim) (diameter k.array) k.counts.rows k.rooms n x y
+rooms_after (Comb m values) k = room_after (Comb m values) k.rooms
+rooms_after (Low r s t v n) k = room_after (Low r s t v n) k.rooms
+rooms_after (High r s t v n) k = room_after (High r s t v n) k.rooms
+rooms_after (Split r s t v) k = room_after (Split r s t v) k.rooms
+rooms_after (Miss n) k = room_after (Miss n) k.rooms
+rooms_after (Mod n g) k = room_after (Mod n g) k.rooms
+rooms_after (Void r s t) k = room_after (Void r s t) k.rooms
+rooms_after _ k = k.rooms
+
 -- what is known after one more line
 abbrev pub known_after : Line → KnownContent → KnownContent
 known_after line k =
-    record k { counts = counts_after line k.counts; frame = frame_after line k.frame }
+    record k {
+      counts = counts_after line k.counts;
+      frame = frame_after line k.frame;
+      rooms = rooms_after line k;
+    }
 
 -- before the first line there are no sizes, and no rows of each upper index from 0 to d
 abbrev pub counts_at_start : Entries → CountContent
@@ -55,7 +83,7 @@ counts_at_start a = record { sizes = None; rows = replicate (diameter a + 1) [] 
 
 abbrev pub known_at_start : Entries → Claim → KnownContent
 known_at_start a claim =
-    record { array = a; claim = claim; counts = counts_at_start a; frame = None }
+    record { array = a; claim = claim; counts = counts_at_start a; frame = None; rooms = None }
 
 -- after these lines, the newest of them first
 abbrev pub known_of : Entries → Claim → List Line → KnownContent
@@ -68,7 +96,7 @@ known_at_end δ = known_of δ.array δ.claim (reverse δ.lines)
 
 -- ---- What a line asks
 
--- the lines that have a rule; no other line is met yet
+-- the steps of the lines that have a rule; no other line is met yet
 abbrev pub steps_of : KnownContent → Line → List Step
 steps_of k (K values) = size_steps k.array k.counts.sizes values
 steps_of k (P h i values) =
@@ -81,4 +109,16 @@ steps_of k (Theta i numbers) = in_frame k.frame (λ f. theta_steps k.array f i n
 steps_of k (Prow i numbers) = in_frame k.frame (λ f. prow_steps k.array f i numbers)
 steps_of k (Qrow r numbers) =
     in_frame k.frame (λ f. qrow_steps k.array k.counts.sizes f r numbers)
+steps_of k (Eq n x y) = for_type (type_of k.claim) (λ ty. eq_steps k.array k.counts.rows ty n x y)
+steps_of k (Comb m values) = room_steps k.rooms (Comb m values)
+steps_of k (Low r s t v n) = room_steps k.rooms (Low r s t v n)
+steps_of k (High r s t v n) = room_steps k.rooms (High r s t v n)
+steps_of k (Split r s t v) = room_steps k.rooms (Split r s t v)
+steps_of k (Miss n) = room_steps k.rooms (Miss n)
+steps_of k (Mod n g) = room_steps k.rooms (Mod n g)
+steps_of k (Void r s t) = room_steps k.rooms (Void r s t)
 steps_of k _ = not_built
+
+-- after the last branch is closed no line is met but the end
+abbrev pub asked_of : KnownContent → Line → List Step
+asked_of k line = Holds (not (are_closed k.rooms)) ∷ steps_of k line

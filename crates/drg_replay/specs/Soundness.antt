@@ -1,5 +1,5 @@
 -- What an accepted derivation, and each met line of it, says of graphs.
-use Rattle.std.specs.Prelude.{◌≡◌, ℕ, ◌≤◌, ◌<◌, pos, length, IsTrue, List, Ok}
+use Rattle.std.specs.Prelude.{◌≡◌, ℕ, ◌≤◌, ◌<◌, pos, length, true, IsTrue, List, Ok}
 use Rattle.drg_array.specs.Entries.{Entries, IsArray, diameter}
 use Rattle.drg_array.specs.declared.claim.Claim.{Claim}
 use Rattle.drg_array.specs.declared.claim.Class.TheVariants.{Counting}
@@ -9,12 +9,19 @@ use Rattle.drg_graph.specs.Graph.{Graph, is_vertex, sphere, pairs_at, HasDistanc
 use Rattle.drg_replay.specs.Known.{KnownContent}
 use Rattle.drg_replay.specs.Sizes.{size_at, values_of}
 use Rattle.drg_replay.specs.Rows.{rows_at, entry}
+use Rattle.drg_replay.specs.Rooms.{are_closed}
 use Rattle.drg_replay.specs.Lines.{known_of}
 use Rattle.drg_replay.specs.Answers.{AllAreMet, answer_of}
 
 -- a derivation that is accepted by counting rules alone excludes every graph
 abbrev pub GraphLaw : Type 0
 GraphLaw = (δ : Content) → IsArray δ.array → answer_of δ ≡ Ok Counting → NoGraph δ.array
+
+-- lines that are met and close all rooms of the claim's type exclude every graph
+abbrev pub ClosedRoomsLaw : Type 0
+ClosedRoomsLaw =
+    (a : Entries) (claim : Claim) (lines : List Line) → IsArray a → AllAreMet a claim lines
+    → are_closed (known_of a claim lines).rooms ≡ true → NoGraph a
 
 -- the stated sizes are the counts at each vertex of the graph
 abbrev pub SizesAreCounts : Graph → KnownContent → Type 0

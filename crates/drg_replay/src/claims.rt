@@ -43,6 +43,9 @@ pub fn claim_is_met(array: &Array, claim: Claim) -> bool
         Claim::Induced { i, j } => is_distance(array, i) && is_distance(array, j),
         Claim::Triangles { i } => is_distance(array, i),
         Claim::Mult { i } => is_distance(array, i),
+        Claim::Triple { u, v, w } => {
+            is_distance(array, u) && is_distance(array, v) && is_distance(array, w)
+        }
         _ => false,
     }
 }
@@ -135,6 +138,7 @@ pub fn check_closing(known: &Known) -> Result<(), Refusal>
             check_triangles(array, counts.sizes(), counts.rows_at(i), i)
         }
         Claim::Mult { i } => check_mult(array, known.frame(), usize::from(i)),
+        Claim::Triple { .. } => met_where(known.is_closed()),
         _ => not_built(),
     }
 }

@@ -1,9 +1,11 @@
 //! What the lines `k` and `p` state.
 ghost use Rattle.std.specs.Prelude.{◌≡◌, ◌<◌, ◌+◌, [], length, Some, IfOk, OnOk, OnErr, replicate};
 ghost use Rattle.drg_array.specs.Entries.{diameter};
-ghost use Rattle.drg_replay.specs.Rows.{rows_at as the_rows_at};
+ghost use Rattle.drg_replay.specs.Rows.{rows_at as the_rows_at, row_stands as the_row_stands};
+ghost use Rattle.drg_replay.specs.Systems.{number as the_number};
 ghost use Rattle.drg_replay.specs.Lines.{counts_at_start, with_row};
 
+use crate::rows::{entry, row_stands};
 use drg_array::Array;
 use drg_derivation::NumberList;
 use std::alloc::{AllocError, Global};
@@ -75,6 +77,28 @@ impl Counts {
         ensures { result.now ≡ the_rows_at self.now.rows h }
     {
         &self.rows[h].rows
+    }
+
+    /// `p^h_ij` as the rows state it, and 0 where none does.
+    pub fn number(&self, h: usize, i: usize, j: usize) -> i128
+        ensures { result ≡ the_number self.now.rows h i j }
+    {
+        if h < self.rows.len() {
+            entry(h, &self.rows[h].rows, i, j)
+        } else {
+            entry(h, &[], i, j)
+        }
+    }
+
+    /// Whether row i of h stands.
+    pub fn row_stands(&self, h: usize, i: usize) -> bool
+        ensures { result ≡ the_row_stands (the_rows_at self.now.rows h) i }
+    {
+        if h < self.rows.len() {
+            row_stands(&self.rows[h].rows, i)
+        } else {
+            row_stands(&[], i)
+        }
     }
 
     /// Keeps the numbers of a `k` line.

@@ -1,19 +1,26 @@
 //! What the lines so far have made known.
-ghost use Rattle.std.specs.Prelude.{◌≡◌, ◌+◌, length, is_some, IfOk, true};
+ghost use Rattle.std.specs.Prelude.{◌≡◌, ◌+◌, length, is_some, Some, IfOk, OnOk, OnErr, true};
 ghost use Rattle.drg_array.specs.Entries.{diameter};
-ghost use Rattle.drg_replay.specs.Answers.{TakesLine};
+ghost use Rattle.drg_linear.specs.Equations.{EquationContent};
+ghost use Rattle.drg_replay.specs.Answers.{FollowsRule, Takes, TakesLine};
+ghost use Rattle.drg_replay.specs.Rooms.{are_closed, room_steps, room_after};
+ghost use Rattle.drg_replay.specs.Systems.{system_of, system_at_start, with_equation};
 ghost use Rattle.drg_replay.specs.Claims.{claim_is_met as the_claim_is_met};
 ghost use Rattle.drg_replay.specs.Lines.{known_at_start};
-ghost use Rattle.drg_derivation.specs.declared.line.Line.TheVariants.{K, P, Frame as FrameLine, Theta, Prow, Qrow};
+ghost use Rattle.drg_derivation.specs.declared.line.Line.TheVariants.{K, P, Frame as FrameLine, Theta, Prow, Qrow, Eq as EqLine};
 
 use crate::counts::Counts;
+use crate::equations::equation_of_line;
 use crate::frame::{Frame, check_frame};
 use crate::index::index;
 use crate::refusal::{Fault, Refusal, not_built};
 use crate::rows::check_row;
 use crate::sizes::check_sizes;
+use crate::systems::{starting_room, type_of};
 use drg_array::{Array, Claim};
 use drg_derivation::{Line, NumberList};
+use drg_linear::{Equation, TripleType};
+use drg_rooms::Branches;
 use std::alloc::{AllocError, Global};
 use std::marker::Model;
 
@@ -25,6 +32,7 @@ pub struct Known {
     claim: Claim,
     counts: Counts,
     frame: Option<Frame>,
+    rooms: Option<Branches>,
 }
 
 impl Model for Known {
@@ -35,7 +43,7 @@ impl Model for Known {
 
     ghost Value = { KnownContent };
 
-    ghost view = { λ k. record { array = k.array; claim = k.claim; counts = k.counts; frame = k.frame } };
+    ghost view = { λ k. record { array = k.array; claim = k.claim; counts = k.counts; frame = k.frame; rooms = k.rooms } };
 
     ghost invariant = { λ k. (claim_is_met k.array k.claim ≡ true)
         × (length k.counts.rows ≡ diameter k.array + 1) };
@@ -61,6 +69,7 @@ impl Known {
             claim,
             counts,
             frame: None,
+            rooms: None,
         })
     }
 
@@ -101,9 +110,19 @@ impl Known {
         self.frame.is_some()
     }
 
+    /// Whether rooms stand of which no branch is open.
+    pub fn is_closed(&self) -> bool
+        ensures { result ≡ are_closed self.now.rooms }
+    {
+        match &self.rooms {
+            None => false,
+            Some(rooms) => !rooms.is_open(),
+        }
+    }
+
     /// Takes a `k` line.
     fn take_sizes(&mut self, values: &NumberList) -> Result<(), Fault>
-        ensures { TakesLine result (K values.now) self.old self.new }
+        ensures { FollowsRule result (K values.now) self.old self.new }
     {
         check_sizes(&self.array, self.counts.sizes(), values.as_slice())?;
         let sizes = copied(self.alloc, values)?;
@@ -113,7 +132,7 @@ impl Known {
 
     /// Takes a `p` line.
     fn take_row(&mut self, h: i128, i: i128, values: &NumberList) -> Result<(), Fault>
-        ensures { TakesLine result (P h i values.now) self.old self.new }
+        ensures { FollowsRule result (P h i values.now) self.old self.new }
     {
         let d = self.array.d();
         let h = index(0, h, d)?;
@@ -132,7 +151,7 @@ impl Known {
 
     /// Takes a `frame` line.
     fn take_frame(&mut self, root: i128) -> Result<(), Fault>
-        ensures { TakesLine result (FrameLine root) self.old self.new }
+        ensures { FollowsRule result (FrameLine root) self.old self.new }
     {
         check_frame(self, root)?;
         self.frame = Some(Frame::new(self.alloc, root));
@@ -141,7 +160,7 @@ impl Known {
 
     /// Takes a `theta` line.
     fn take_theta(&mut self, i: i128, values: &NumberList) -> Result<(), Fault>
-        ensures { TakesLine result (Theta i values.now) self.old self.new }
+        ensures { FollowsRule result (Theta i values.now) self.old self.new }
     {
         match &mut self.frame {
             Some(frame) => frame.take_theta(self.alloc, &self.array, i, values),
@@ -151,7 +170,7 @@ impl Known {
 
     /// Takes a `prow` line.
     fn take_prow(&mut self, i: i128, values: &NumberList) -> Result<(), Fault>
-        ensures { TakesLine result (Prow i values.now) self.old self.new }
+        ensures { FollowsRule result (Prow i values.now) self.old self.new }
     {
         match &mut self.frame {
             Some(frame) => frame.take_prow(self.alloc, &self.array, i, values),
@@ -161,7 +180,7 @@ impl Known {
 
     /// Takes a `qrow` line.
     fn take_qrow(&mut self, r: i128, values: &NumberList) -> Result<(), Fault>
-        ensures { TakesLine result (Qrow r values.now) self.old self.new }
+        ensures { FollowsRule result (Qrow r values.now) self.old self.new }
     {
         match &mut self.frame {
             Some(frame) => {
@@ -171,11 +190,69 @@ impl Known {
         }
     }
 
-    /// Takes a line. A refusal changes nothing, nor does want of memory.
-    pub fn step(&mut self, line: &Line) -> Result<(), Fault>
-        ensures { TakesLine result line.now self.old self.new }
+    /// Appends an equation, the first of which opens the system of the type.
+    fn keep_equation(&mut self, ty: TripleType, equation: Equation) -> Result<(), AllocError>
+        ensures ok { OnOk result (self.new ≡ record self.old {
+          rooms = Some (with_equation
+              (system_of self.old.rooms (system_at_start (diameter self.old.array) self.old.counts.rows ty))
+              equation);
+        }) }
+        ensures err { OnErr result (self.new ≡ self.old) }
+    {
+        self.array.known_valid();
+        match &mut self.rooms {
+            Some(rooms) => rooms.push(equation),
+            None => {
+                let d = self.array.d();
+                let room = starting_room(self.alloc, d, &self.counts, ty)?;
+                let mut rooms = Branches::start(self.alloc, d, room);
+                rooms.push(equation)?;
+                self.rooms = Some(rooms);
+                Ok(())
+            }
+        }
+    }
+
+    /// Takes an `eq` line.
+    fn take_eq(&mut self, n: i128, x: i128, y: i128) -> Result<(), Fault>
+        ensures { FollowsRule result (EqLine n x y) self.old self.new }
+    {
+        let Some(ty) = type_of(self.claim) else {
+            return Err(Fault::Refused(Refusal::NotMet));
+        };
+        let equation = equation_of_line(self.alloc, &self.array, &self.counts, ty, n, x, y)?;
+        self.keep_equation(ty, equation)?;
+        Ok(())
+    }
+
+    /// Takes a room line.
+    #[tactic(auto, using(crate::proofs::RoomSteps::room_met, crate::proofs::RoomSteps::room_not_met, crate::proofs::RoomSteps::room_wide))]
+    fn take_room_line(&mut self, line: &Line) -> Result<(), Fault>
+        ensures { Takes result (room_steps self.old.rooms line.now)
+            self.old (record self.old { rooms = room_after line.now self.old.rooms }) self.new }
+    {
+        match &mut self.rooms {
+            Some(rooms) => {
+                rooms.step(line)?;
+                Ok(())
+            }
+            None => Err(Fault::Refused(Refusal::NotMet)),
+        }
+    }
+
+    /// Takes a line by its rule. A refusal changes nothing, nor does want of memory.
+    fn follow(&mut self, line: &Line) -> Result<(), Fault>
+        ensures { FollowsRule result line.now self.old self.new }
     {
         match line {
+            Line::Eq { a, x, y } => self.take_eq(*a, *x, *y),
+            Line::Comb { .. }
+            | Line::Low { .. }
+            | Line::High { .. }
+            | Line::Split { .. }
+            | Line::Miss { .. }
+            | Line::Mod { .. }
+            | Line::Void { .. } => self.take_room_line(line),
             Line::K { values } => self.take_sizes(values),
             Line::P { h, i, values } => self.take_row(*h, *i, values),
             Line::Frame { root } => self.take_frame(*root),
@@ -187,5 +264,15 @@ impl Known {
                 Ok(())
             }
         }
+    }
+
+    /// Takes a line. A refusal changes nothing, nor does want of memory.
+    pub fn step(&mut self, line: &Line) -> Result<(), Fault>
+        ensures { TakesLine result line.now self.old self.new }
+    {
+        if self.is_closed() {
+            return Err(Fault::Refused(Refusal::NotMet));
+        }
+        self.follow(line)
     }
 }

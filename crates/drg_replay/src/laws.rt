@@ -3,7 +3,7 @@ ghost use Rattle.drg_replay.specs.RationalRoots.{RationalRootLaw};
 ghost use Rattle.drg_replay.specs.Roots.{RootLaw};
 ghost use Rattle.drg_replay.specs.Laws.{ClassLaw, KnownAloneLaw, KnownRowsLaw, KnownSizesLaw, ReplayedLaw};
 ghost use Rattle.drg_replay.specs.Spectral.{SpectralLaw};
-ghost use Rattle.drg_replay.specs.Soundness.{GraphLaw, MetRowsLaw, MetSizesLaw};
+ghost use Rattle.drg_replay.specs.Soundness.{ClosedRoomsLaw, GraphLaw, MetRowsLaw, MetSizesLaw};
 
 use drg_graph::{
     cross_law, degree_law, first_law, handshake_law, induced_law, intersect_law, order_law,
@@ -33,7 +33,13 @@ pub fn graph_law()
     handshake_law();
     induced_law();
     triangles_law();
+    closed_rooms_law();
 }
+
+/// Lines that are met and close all rooms of the type of triples of their claim exclude every graph.
+pub fn closed_rooms_law()
+    ensures { ClosedRoomsLaw }
+{}
 
 /// The written numbers of a derivation that is accepted with a frame are a frame of its array, and
 /// its condition fails at them.

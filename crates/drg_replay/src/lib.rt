@@ -10,8 +10,9 @@
 //! before them alone (specs/Laws.antt).
 //!
 //! The rules that are built are those of the claims first, degree, order, cross, size, intersect,
-//! handshake, induced, triangles and mult and of the lines `k`, `p`, `frame`, `theta`, `prow` and
-//! `qrow`. No other claim or line is met yet.
+//! handshake, induced, triangles, mult and triple, and of the lines `k`, `p`, `frame`, `theta`,
+//! `prow`, `qrow`, `eq`, `comb`, `low`, `high`, `split`, `miss`, `mod` and `void`. No other claim or
+//! line is met yet.
 #![tactic(auto)]
 
 mod answer;
@@ -19,6 +20,7 @@ mod claims;
 mod counts;
 mod eigenmatrix;
 mod entries;
+mod equations;
 mod field_number;
 mod frame;
 mod index;
@@ -32,15 +34,18 @@ mod refusal;
 mod root;
 mod rows;
 mod sizes;
+mod systems;
 
 pub use answer::ReplayFault;
 pub use judge::replay;
 pub use laws::{
-    graph_law, known_alone_law, met_rows_law, met_sizes_law, rational_root_law, replayed_law,
-    root_law, spectral_law,
+    closed_rooms_law, graph_law, known_alone_law, met_rows_law, met_sizes_law, rational_root_law,
+    replayed_law, root_law, spectral_law,
 };
 
 #[cfg(test)]
 mod frame_tests;
+#[cfg(test)]
+mod room_tests;
 #[cfg(test)]
 mod tests;

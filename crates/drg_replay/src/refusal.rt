@@ -4,7 +4,9 @@ ghost use Rattle.std.specs.Ordering.{int_eq};
 ghost use Rattle.drg_replay.specs.Steps.{Holds, first_failure, not_built as the_not_built};
 ghost use Rattle.drg_replay.specs.declared.refusal.Refusal.TheVariants.{Wide as the_wide};
 ghost use Rattle.drg_replay.specs.declared.refusal.Fault.TheVariants.{Memory, Refused};
+ghost use Rattle.drg_replay.specs.Rooms.{fault_of_room};
 
+use drg_rooms::RoomFault;
 use drg_whole::{Whole, Wide};
 use std::alloc::AllocError;
 
@@ -70,5 +72,17 @@ impl From<AllocError> for Fault {
 
     fn from(_error: AllocError) -> Fault {
         Fault::Memory
+    }
+}
+
+impl From<RoomFault> for Fault {
+    ghost from_gives = { λ room fault. fault ≡ fault_of_room room };
+
+    fn from(fault: RoomFault) -> Fault {
+        match fault {
+            RoomFault::NotMet => Fault::Refused(Refusal::NotMet),
+            RoomFault::Wide => Fault::Refused(Refusal::Wide),
+            RoomFault::Memory => Fault::Memory,
+        }
     }
 }

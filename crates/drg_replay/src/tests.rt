@@ -50,7 +50,7 @@ fn answer(
 #[test]
 fn claims_on_the_entries(rt: HostRuntime) -> Result<(), Fail> {
     let alloc = rt.alloc();
-    let cases: [(&str, Claim, Result<Class, ReplayFault>); 18] = [
+    let cases: [(&str, Claim, Result<Class, ReplayFault>); 19] = [
         ("{3,2;2,1}", Claim::First, ACCEPTED),
         ("{3,3;1,1}", Claim::First, open(4)),
         ("{3,3;1,1}", Claim::Degree { i: 1 }, ACCEPTED),
@@ -72,7 +72,8 @@ fn claims_on_the_entries(rt: HostRuntime) -> Result<(), Fail> {
             Claim::Krein { i: 1, j: 1, h: 1 },
             not_met(3),
         ),
-        ("{6,4;1,4}", Claim::Triple { u: 1, v: 1, w: 1 }, not_met(3)),
+        ("{6,4;1,4}", Claim::Triple { u: 2, v: 1, w: 1 }, open(4)),
+        ("{6,4;1,4}", Claim::Triple { u: 1, v: 3, w: 1 }, not_met(3)),
     ];
     for (text, claim, expected) in cases {
         let given = answer(alloc, text, claim, Vec::new(alloc))?;

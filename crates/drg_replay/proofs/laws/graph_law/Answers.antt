@@ -2,7 +2,7 @@ use Rattle.drg_replay.proofs.Soundness.{excludes}
 use Rattle.drg_replay.proofs.laws.graph_law.Goals as goal
 
 pub returns : goal.returns
-returns c = excludes (record {
+returns c = excludes c.closed_rooms_law.ensures (record {
   first = c.first_law.ensures;
   degree = c.degree_law.ensures;
   order = c.order_law.ensures;
