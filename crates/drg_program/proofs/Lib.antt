@@ -1,4 +1,5 @@
 pub mod CheckLemmas
+mod ClassicalLemmas
 mod GraphLemmas
 mod InputLemmas
 mod OutputLemmas

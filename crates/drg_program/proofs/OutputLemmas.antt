@@ -1,5 +1,5 @@
 -- From what a command makes of the bytes that were read to how it ends.
-use Rattle.std.proofs.Common.{ℕ, ◌⊎◌, inl, inr, List, Option, Result, Ok, Err}
+use Rattle.std.proofs.Common.{ℕ, ◌⊎◌, inl, inr, List, [], Option, None, Result, Ok, Err, arith}
 use Rattle.std.specs.Prelude.{Vec, IsErrOf}
 use Rattle.std.specs.declared.alloc.Global.{Global}
 use Rattle.drg_outside.specs.Files.{File}
@@ -49,3 +49,17 @@ causes command bytes result file files open_before open_now read_before read_now
   later_open = h.later_open;
   later_read = h.later_read;
 }
+
+-- the causes of what was made without a file
+pub no_file : (command : Command) (result : Result Output EarlyRefusal) (files : Option (List File)) (opened read : ℕ) → Finds command [] result
+    → HasCauses None files opened opened read read result
+no_file command result files opened read found = record {
+  open_fault = λ e. absurd (no_open_fault command [] result found e);
+  missing = λ gone. absurd gone;
+  read_fault = λ e. absurd (no_read_fault command [] result found e);
+  later_open = omega arith;
+  later_read = omega arith;
+}
+
+pub ends_alone : (command : Command) (result : Result Output EarlyRefusal) → Finds command [] result → Ends command [] result
+ends_alone command result found = ends command [] result (omega arith) found

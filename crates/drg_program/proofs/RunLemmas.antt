@@ -1,5 +1,5 @@
 -- From the parts of an answer to the whole.
-use Rattle.std.proofs.Common.{◌≢◌, ℕ, List, Option, Result, Ok, Err, refl, sym, subst, arith}
+use Rattle.std.proofs.Common.{◌≡◌, ◌≢◌, ℕ, List, Option, Result, Ok, Err, refl, sym, subst, arith}
 use Rattle.std.specs.Io.KnownBytes.{Appends}
 use Rattle.drg_array.specs.declared.test.Test.{Test}
 use Rattle.drg_array.specs.declared.claim.Claim.{Claim}
@@ -15,9 +15,10 @@ use Rattle.drg_program.specs.Replay.{Tells}
 use Rattle.drg_program.specs.Run.{Answers, Decides, IsAnswerOf, IsBadAt, IsInGrammar, IsOutput}
 use Rattle.drg_program.specs.Statuses.{IsEarly, IsRefusal}
 use Rattle.drg_program.specs.declared.command.Command.{Command}
-use Rattle.drg_program.specs.declared.command.Command.TheVariants.{Check, Replay, Graph}
+use Rattle.drg_program.specs.declared.command.Command.TheVariants.{Check, Replay, Graph, Census, Classical}
 use Rattle.drg_program.specs.declared.status.Status.{Status}
 use Rattle.drg_program.specs.declared.status.Status.TheVariants.{Usage, BadInput, TooLong, OpenFault, ReadFault, WriteFault, Memory}
+use Rattle.drg_program.proofs.ClassicalLemmas as classical
 use Rattle.drg_program.proofs.GraphLemmas as graph
 
 judged : (v : Verdict) (tests : List Test) (file : List ℕ) → IsAnswerOf (status_of v) (Check tests file)
@@ -38,6 +39,8 @@ is_answer : (command : Command) (bytes : List ℕ) (status : Status) (text : Lis
 is_answer (Check tests file) bytes status text h = subst (λ (s : Status). IsAnswerOf s (Check tests file)) (sym h.told) (judged h.verdict tests file)
 is_answer (Replay file) bytes status text h = told h.derivation.claim (answer_of h.derivation) status text file h.concludes.tells
 is_answer (Graph file) bytes status text h = graph.told h.answer status file h.told
+is_answer (Census d k n) bytes status text h = rw h.told tt
+is_answer (Classical file) bytes status text h = classical.told h.array status text file h.tells
 
 -- and no refusal
 no_refusal : (status : Status) (command : Command) → IsAnswerOf status command → IsRefusal status → ⊥
@@ -57,6 +60,12 @@ refused status early = early
 pub not_early : (command : Command) (bytes : List ℕ) (status : Status) (text : List ℕ) → IsOutput command bytes status text → IsEarly status → ⊥
 not_early command bytes status text output early = no_refusal status command (is_answer command bytes status text output) (refused status early)
 
+-- the status of what is written is none of a refusal
+pub not_refused : (command : Command) (bytes : List ℕ) (status other : Status) (text : List ℕ) → IsOutput command bytes status text → status ≡ other
+    → IsRefusal other → ⊥
+not_refused command bytes status other text output same refusal =
+    no_refusal status command (is_answer command bytes status text output) (subst (λ (s : Status). IsRefusal s) (sym same) refusal)
+
 -- what was written whole is the answer of its status
 pub whole : (command : Command) (bytes : List ℕ) (status : Status) (text : List ℕ) (old new : Option (List ℕ)) → IsWithinLimit bytes
     → IsOutput command bytes status text → Appends old new text → Answers command bytes status old new
@@ -73,11 +82,15 @@ in_grammar : (command : Command) (bytes : List ℕ) (status : Status) (text : Li
 in_grammar (Check tests file) bytes status text h = (h.array, h.read)
 in_grammar (Replay file) bytes status text h = (h.n, h.derivation, h.begins)
 in_grammar (Graph file) bytes status text h = (h.graph, h.read)
+in_grammar (Census d k n) bytes status text h = tt
+in_grammar (Classical file) bytes status text h = (h.array, h.read)
 
 not_in_grammar : (command : Command) (bytes : List ℕ) (line at : ℕ) → IsBadAt command bytes line at → IsInGrammar command bytes → ⊥
 not_in_grammar (Check tests file) bytes line at (one, (none, kind, fault)) (a, is) = none a is
 not_in_grammar (Replay file) bytes line at (zero, (none, refused)) (n, δ, begins) = none n δ begins
 not_in_grammar (Graph file) bytes line at (zero, (none, fault)) (g, read) = none (g, read)
+not_in_grammar (Census d k n) bytes line at bad good = absurd bad
+not_in_grammar (Classical file) bytes line at (one, (none, kind, fault)) (a, is) = none a is
 
 written : (command : Command) (bytes : List ℕ) (status : Status) (text : List ℕ) → IsWithinLimit bytes → IsOutput command bytes status text
     → Decides command bytes status

@@ -7,3 +7,5 @@ pub mod Replay
 pub mod GraphText
 pub mod Graph
 pub mod Run
+pub mod Census
+pub mod Classical

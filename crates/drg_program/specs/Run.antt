@@ -5,36 +5,44 @@ use Rattle.drg_outside.specs.Whole.{AppendsPart}
 use Rattle.drg_array.specs.Entries.{Entries}
 use Rattle.drg_derivation.specs.Content.{Content}
 use Rattle.drg_derivation.specs.Text.{Begins}
+use Rattle.drg_program.specs.Census.{AnswersCensus}
 use Rattle.drg_program.specs.Check.{Checks, IsArrayOf, IsFaultAt}
+use Rattle.drg_program.specs.Classical.{AnswersClassical}
 use Rattle.drg_program.specs.Graph.{AnswersGraph, IsFaultInEdges, ListsEdges}
 use Rattle.drg_program.specs.Input.{IsTooLong, IsWithinLimit}
 use Rattle.drg_program.specs.Replay.{IsFaultInLine, Replays}
 use Rattle.drg_program.specs.Words.{file_of}
 use Rattle.drg_program.specs.declared.command.Command.{Command}
-use Rattle.drg_program.specs.declared.command.Command.TheVariants.{Check, Replay, Graph}
+use Rattle.drg_program.specs.declared.command.Command.TheVariants.{Check, Replay, Graph, Census, Classical}
 use Rattle.drg_program.specs.declared.output.Output.{Output}
 use Rattle.drg_program.specs.declared.output.EarlyRefusal.{EarlyRefusal}
 use Rattle.drg_program.specs.declared.output.EarlyRefusal.TheVariants as refusal
 use Rattle.drg_program.specs.declared.status.Status.{Status}
-use Rattle.drg_program.specs.declared.status.Status.TheVariants.{Survivor, Infeasible, RefusedSpectrum, Undecided, Accepted, Rejected, Usage, BadInput, TooLong, OpenFault, ReadFault, WriteFault, Memory}
+use Rattle.drg_program.specs.declared.status.Status.TheVariants.{Survivor, Infeasible, RefusedSpectrum, Undecided, Accepted, Rejected, Done, Usage, BadInput, TooLong, OpenFault, ReadFault, WriteFault, Memory}
 
 -- the bytes are in the grammar of the command's input
 abbrev pub IsInGrammar : Command → List ℕ → Type 0
 IsInGrammar (Check tests file) bytes = (a : Entries) × IsArrayOf bytes a
 IsInGrammar (Replay file) bytes = (n : ℕ) × (δ : Content) × Begins bytes n δ
 IsInGrammar (Graph file) bytes = ListsEdges bytes
+IsInGrammar (Census d k n) bytes = ⊤
+IsInGrammar (Classical file) bytes = (a : Entries) × IsArrayOf bytes a
 
 -- the bytes aren't in that grammar, and the first fault is in this line and place, where place 0 is the whole line
 abbrev pub IsBadAt : Command → List ℕ → ℕ → ℕ → Type 0
 IsBadAt (Check tests file) bytes line at = (line ≡ 1) × IsFaultAt bytes at
 IsBadAt (Replay file) bytes line at = (at ≡ 0) × IsFaultInLine bytes line
 IsBadAt (Graph file) bytes line at = (at ≡ 0) × IsFaultInEdges bytes line
+IsBadAt (Census d k n) bytes line at = ⊥
+IsBadAt (Classical file) bytes line at = (line ≡ 1) × IsFaultAt bytes at
 
 -- the status of these bytes, and the text that is written
 abbrev pub IsOutput : Command → List ℕ → Status → List ℕ → Type 0
 IsOutput (Check tests file) bytes status text = Checks bytes tests status text
 IsOutput (Replay file) bytes status text = Replays bytes status text
 IsOutput (Graph file) bytes status text = AnswersGraph bytes status text
+IsOutput (Census d k n) bytes status text = AnswersCensus d k n status text
+IsOutput (Classical file) bytes status text = AnswersClassical bytes status text
 
 -- the status is an answer of the command, and no refusal
 abbrev pub IsAnswerOf : Status → Command → Type 0
@@ -47,6 +55,9 @@ IsAnswerOf Rejected (Replay file) = ⊤
 IsAnswerOf Undecided (Replay file) = ⊤
 IsAnswerOf Accepted (Graph file) = ⊤
 IsAnswerOf Rejected (Graph file) = ⊤
+IsAnswerOf Done (Census d k n) = ⊤
+IsAnswerOf Done (Classical file) = ⊤
+IsAnswerOf Undecided (Classical file) = ⊤
 IsAnswerOf status command = ⊥
 
 -- what a command makes of all bytes of its input: the status and the text, or the first fault in them

@@ -56,7 +56,7 @@ fn check_text(alloc: Global, bytes: &[u8], tests: &TestSet) -> Result<Output, Ea
 }
 
 /// The bytes less one line end.
-fn without_end(bytes: &[u8]) -> &[u8]
+pub fn without_end(bytes: &[u8]) -> &[u8]
     ensures { result.now ≡ without_line_end bytes.now }
 {
     match bytes {

@@ -5,7 +5,8 @@
 //! The words stand in `specs/Words.antt`, the input and why it can't be had in `specs/Input.antt`, what
 //! `check` finds of an array in `specs/Check.antt`, what `replay` finds of a derivation in
 //! `specs/Replay.antt` with its line in `specs/AnswerText.antt`, what `graph` finds of a graph in
-//! `specs/Graph.antt` with its line in `specs/GraphText.antt`, and how these make the answer of a run in
+//! `specs/Graph.antt` with its line in `specs/GraphText.antt`, what `census` finds in `specs/Census.antt`,
+//! what `classical` finds in `specs/Classical.antt`, and how these make the answer of a run in
 //! `specs/Run.antt`. The verdicts on an array and their texts are those of `drg_engine` and `drg_report`,
 //! and the answers on a graph are those of `drg_edges`.
 //!
@@ -14,7 +15,9 @@
 #![tactic(auto)]
 
 mod answer_text;
+mod census;
 mod check;
+mod classical;
 mod command;
 mod graph;
 mod graph_text;
@@ -28,9 +31,11 @@ ghost use Rattle.drg_outside.specs.Causes.{Rose};
 ghost use Rattle.drg_program.specs.Input.{AreInputOf, HasCauses, IsFileMissing, IsToldInput};
 ghost use Rattle.drg_program.specs.Run.{Answers, Decides, Ends, ReadsFile};
 ghost use Rattle.drg_program.specs.Statuses.{IsEarly};
-ghost use Rattle.drg_program.specs.Words.{AreWordsOf, IsCommand, file_of, words_of};
+ghost use Rattle.drg_program.specs.Words.{AreWordsOf, HasLimits, IsCommand, file_of, words_of};
 
+use census::arrays_of;
 use check::check;
+use classical::classical_file;
 pub use command::words_law;
 use command::{Command, command_of};
 use drg_outside::{Inputs, Sink, write_all};
@@ -45,16 +50,27 @@ pub const INPUT_LIMIT: usize = 67_108_864;
 
 /// Runs the command of these words, which are those after the program's name.
 ///
-/// The clause `answer` says what the status and the written bytes mean. After `check` they are those of a
-/// right verdict on the array of the input, by the tests that always run and those that are selected:
-/// `infeasible` says that the array fails the claim that is written and no claim before it, that the
-/// derivation that is written is accepted with its class, and, where the class is counting, that no finite
-/// graph is distance-regular with the array. After `replay` they are the answer of the derivation at the
-/// front of the input: `accepted` by counting says of its array, too, that no such graph has it, and
-/// `accepted` with a frame that the written numbers are a frame of its array that fails the claim. After
-/// `graph` they are the answer on the graph whose edges the input lists: `accepted` says that it is
-/// distance-regular with the array that is written, and `rejected` that it is so with no array, as the
-/// vertices that are written show.
+/// The clause `answer` says what the status and the written bytes mean.
+///
+/// After `check` they are those of a right verdict on the array of the input, by the tests that always run
+/// and those that are selected. `infeasible` says that the array fails the claim that is written and no
+/// claim of its test before it, and that the derivation that is written is accepted with its class. Where
+/// the class is counting, no finite graph is distance-regular with the array; where it is spectral, the
+/// eigenvalues and matrices that are written are those of the array, and that graphs meet the condition
+/// which they fail is taken from the literature. `survivor` says that each test that ran holds.
+/// `refused-spectrum` and `undecided` say that each of them that is decided holds: the one with the factors
+/// that show that no one quadratic field holds the eigenvalues, the other with a number that is too wide.
+///
+/// After `replay` they are the answer of the derivation at the front of the input: `accepted` by counting
+/// says of its array, too, that no such graph has it, and `accepted` with a frame that the written numbers
+/// are a frame of its array that fails the claim. After `graph` they are the answer on the graph whose
+/// edges the input lists: `accepted` says that it is distance-regular with the array that is written, and
+/// `rejected` that it is so with no array, as the vertices that are written show.
+///
+/// After `census` the arrays that are written are exactly those of its diameter, valency and number of
+/// vertices that meet the conditions of tests 1 to 9, ascending; no file is opened. After `classical` the
+/// rows that are written are exactly the classical parameters of the array of the input, to whole bases up
+/// to its valency, ascending; a base that 128 bits don't decide is named, and `undecided` is answered then.
 pub fn run<I: Inputs, K: Sink>(
     alloc: Global,
     words: &[String],
@@ -117,6 +133,7 @@ fn carry_out<I: Inputs, K: Sink>(
     inputs: &mut I,
     sink: &mut K,
 ) -> Status
+    requires { HasLimits command.now }
     ensures usage { result ≢ Status.Usage }
     ensures unopened { (ReadsFile command.now → ⊥) → inputs.new ≡ inputs.old }
     ensures open { result ≡ Status.OpenFault
@@ -155,6 +172,7 @@ fn output_of<I: Inputs>(
     command: &Command<'_>,
     inputs: &mut I,
 ) -> Result<Output, EarlyRefusal>
+    requires { HasLimits command.now }
     ensures output { (bytes : List ℕ)
         × AreInputOf (I.files inputs.old) (file_of command.now) bytes
         × Ends command.now bytes result }
@@ -168,10 +186,16 @@ fn output_of<I: Inputs>(
         Command::Check { tests, file } => check(alloc, inputs, file, tests),
         Command::Replay { file } => replay_file(alloc, inputs, file),
         Command::Graph { file } => graph_file(alloc, inputs, file),
+        Command::Census { d, k, n } => arrays_of(alloc, *d, *k, *n),
+        Command::Classical { file } => classical_file(alloc, inputs, file),
     }
 }
 
 #[cfg(test)]
+mod census_tests;
+#[cfg(test)]
 mod graph_tests;
 #[cfg(test)]
 mod tests;
+#[cfg(test)]
+mod triple_tests;

@@ -13,15 +13,17 @@ pub enum Status {
     /// A test can't be decided, since the eigenvalues don't lie in one quadratic field, and no other
     /// test is found false.
     RefusedSpectrum,
-    /// A number on which the answer rests is too wide to be computed: a size or an intersection number
-    /// of the array, or a work number of a line of the derivation.
+    /// A number on which the answer rests is too wide to be computed: a number of the array, on the way
+    /// to its eigenvalues and matrices, of a line of the derivation, or on the way to classical
+    /// parameters.
     Undecided,
     /// Each line of the derivation is met, and it closes its claim; or the graph is distance-regular.
     Accepted,
     /// A line of the derivation isn't met, or its claim isn't closed at the end; or the graph isn't
     /// distance-regular with any array.
     Rejected,
-    /// What was asked for is written whole, and there is no verdict to tell. No command answers it yet.
+    /// What was asked for is written whole, and there is no verdict to tell: the arrays of a census, or
+    /// classical parameters.
     Done,
     /// The words are no command.
     Usage,

@@ -229,7 +229,7 @@ const REPLAYED: [(&str, Status, &str); 19] = [
     ),
     (MULT, Status::Accepted, "accepted mult 1 spectral\n"),
     (KREIN, Status::Rejected, "rejected line 3\n"),
-    (TRIPLE, Status::Rejected, "rejected line 3\n"),
+    (TRIPLE, Status::Accepted, "accepted triple 1 1 1 counting\n"),
     ("", Status::BadInput { line: 1, at: 0 }, ""),
     ("drg 1", Status::BadInput { line: 1, at: 0 }, ""),
     (
@@ -340,18 +340,23 @@ fn replayed_texts(rt: HostRuntime) -> Result<(), Fail> {
 #[test]
 fn calls_that_fail(rt: HostRuntime) -> Result<(), Fail> {
     let alloc = rt.alloc();
-    let cases: [(&str, &[u64], &[u64], Status, [&str; 3]); 6] = [
-        ("f", &[1], &[], Status::OpenFault, [""; 3]),
-        ("g", &[], &[], Status::OpenFault, [""; 3]),
-        ("f", &[2], &[], Status::ReadFault, [""; 3]),
-        ("f", &[3], &[], Status::ReadFault, [""; 3]),
-        ("f", &[], &[1], Status::WriteFault, [""; 3]),
+    let cases: [(&str, &[u64], &[u64], Status, [&str; 4]); 6] = [
+        ("f", &[1], &[], Status::OpenFault, [""; 4]),
+        ("g", &[], &[], Status::OpenFault, [""; 4]),
+        ("f", &[2], &[], Status::ReadFault, [""; 4]),
+        ("f", &[3], &[], Status::ReadFault, [""; 4]),
+        ("f", &[], &[1], Status::WriteFault, [""; 4]),
         (
             "f",
             &[],
             &[2],
             Status::WriteFault,
-            ["verdict survivor", "accepted degree ", "differ 0 1 1 0 1"],
+            [
+                "verdict survivor",
+                "accepted degree ",
+                "differ 0 1 1 0 1",
+                "classical -2 -2 ",
+            ],
         ),
     ];
     for (name, inputs, writes, status, written) in cases {
@@ -359,6 +364,7 @@ fn calls_that_fail(rt: HostRuntime) -> Result<(), Fail> {
             ("check", "{3,2;1,1}\n", written[0]),
             ("replay", DEGREE, written[1]),
             ("graph", "graph 3\n0 1\n1 2\n", written[2]),
+            ("classical", "{3,2;1,1}\n", written[3]),
         ] {
             let words = [command, name];
             let (answer, sink) = run_on(alloc, &words, content.as_bytes(), (inputs, writes))?;
@@ -376,7 +382,7 @@ fn calls_that_fail(rt: HostRuntime) -> Result<(), Fail> {
 #[test]
 fn words_that_are_no_command(rt: HostRuntime) -> Result<(), Fail> {
     let alloc = rt.alloc();
-    let cases: [&[&str]; 29] = [
+    let cases: [&[&str]; 33] = [
         &[],
         &[""],
         &["check"],
@@ -402,6 +408,10 @@ fn words_that_are_no_command(rt: HostRuntime) -> Result<(), Fail> {
         &["graph", "f", "f"],
         &["graph", "--tests", "none", "f"],
         &["Graph", "f"],
+        &["classical"],
+        &["classical", "-x"],
+        &["classical", "f", "f"],
+        &["classical", "--tests", "none", "f"],
         &["table", "f"],
         &["sample", "1", "1"],
         &["--help"],
@@ -432,6 +442,7 @@ fn inputs_around_the_limit(rt: HostRuntime) -> Result<(), Fail> {
         ("check", 67_108_865, Status::TooLong),
         ("replay", 67_108_865, Status::TooLong),
         ("graph", 67_108_865, Status::TooLong),
+        ("classical", 67_108_865, Status::TooLong),
     ];
     for (command, length, status) in cases {
         let answer = status_on_spaces(rt.alloc(), command, length)?;

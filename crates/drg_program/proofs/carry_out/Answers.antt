@@ -1,8 +1,33 @@
 use Rattle.std.proofs.Common.{ℕ, List, subst}
 use Rattle.std.specs.Io.KnownBytes.{Appends}
 use Rattle.drg_outside.specs.Whole.{AppendsPart}
-use Rattle.drg_program.proofs.RunLemmas.{not_early, whole}
+use Rattle.drg_program.specs.declared.status.Status.TheVariants.{Usage, OpenFault, ReadFault, WriteFault}
+use Rattle.drg_program.proofs.RunLemmas.{not_early, not_refused, whole}
 use Rattle.drg_program.proofs.carry_out.Goals as goal
+
+pub returns-in-Ok-write_all-clause-usage : goal.returns-in-Ok-write_all-clause-usage
+returns-in-Ok-write_all-clause-usage g c =
+    let found = c.in-Ok.output in
+    let output = c.in-Ok.ensures.output in
+    λ same. not_refused c.args.command.now output.0 found.status Usage found.text.items output.2.1 same tt
+
+pub returns-in-Ok-write_all-clause-open : goal.returns-in-Ok-write_all-clause-open
+returns-in-Ok-write_all-clause-open g c =
+    let found = c.in-Ok.output in
+    let output = c.in-Ok.ensures.output in
+    λ same. absurd (not_refused c.args.command.now output.0 found.status OpenFault found.text.items output.2.1 same tt)
+
+pub returns-in-Ok-write_all-clause-read : goal.returns-in-Ok-write_all-clause-read
+returns-in-Ok-write_all-clause-read g c =
+    let found = c.in-Ok.output in
+    let output = c.in-Ok.ensures.output in
+    λ same. absurd (not_refused c.args.command.now output.0 found.status ReadFault found.text.items output.2.1 same tt)
+
+pub returns-in-Ok-write_all-clause-write : goal.returns-in-Ok-write_all-clause-write
+returns-in-Ok-write_all-clause-write g c =
+    let found = c.in-Ok.output in
+    let output = c.in-Ok.ensures.output in
+    λ same. absurd (not_refused c.args.command.now output.0 found.status WriteFault found.text.items output.2.1 same tt)
 
 pub returns-in-Ok-write_all-clause-unwritten : goal.returns-in-Ok-write_all-clause-unwritten
 returns-in-Ok-write_all-clause-unwritten g c =

@@ -1,8 +1,10 @@
-use Rattle.std.proofs.Common.{ℕ, List, sym, subst}
-use Rattle.drg_program.specs.Input.{AreInputOf}
+use Rattle.std.proofs.Common.{ℕ, List, [], refl, sym, subst}
+use Rattle.drg_program.specs.Input.{AreInputOf, HasCauses}
 use Rattle.drg_program.specs.Run.{Ends}
 use Rattle.drg_program.specs.Words.{file_of}
 use Rattle.drg_program.specs.declared.command.Command.{Command}
+use Rattle.drg_program.specs.declared.command.Command.TheVariants.{Census}
+use Rattle.drg_program.proofs.OutputLemmas.{ends_alone, no_file}
 use Rattle.drg_program.proofs.output_of.Goals as goal
 
 pub returns-in-Check-clause-output : goal.returns-in-Check-clause-output
@@ -22,3 +24,24 @@ returns-in-Graph-clause-output g c =
     let P : Command → Type 0 = λ command.
     (bytes : List ℕ) × AreInputOf (g.I.Inputs.files c.args.inputs.now) (file_of command) bytes × Ends command bytes c.graph_file.result in
     subst P (sym c.in-Graph.is) c.graph_file.ensures.output
+
+pub returns-in-Census-clause-output : goal.returns-in-Census-clause-output
+returns-in-Census-clause-output g c =
+    let P : Command → Type 0 = λ command.
+    (bytes : List ℕ) × AreInputOf (g.I.Inputs.files c.args.inputs.now) (file_of command) bytes × Ends command bytes c.arrays_of.result in
+    subst P (sym c.in-Census.is)
+    ([], refl, ends_alone (Census c.in-Census.d c.in-Census.k c.in-Census.n) c.arrays_of.result c.arrays_of.ensures)
+
+pub returns-in-Census-clause-causes : goal.returns-in-Census-clause-causes
+returns-in-Census-clause-causes g c =
+    let files = g.I.Inputs.files c.args.inputs.now in
+    let opened = g.I.Inputs.open_faults c.args.inputs.now in
+    let read = g.I.Inputs.read_faults c.args.inputs.now in
+    let P : Command → Type 0 = λ command. HasCauses (file_of command) files opened opened read read c.arrays_of.result in
+    subst P (sym c.in-Census.is) (no_file (Census c.in-Census.d c.in-Census.k c.in-Census.n) c.arrays_of.result files opened read c.arrays_of.ensures)
+
+pub returns-in-Classical-clause-output : goal.returns-in-Classical-clause-output
+returns-in-Classical-clause-output g c =
+    let P : Command → Type 0 = λ command.
+    (bytes : List ℕ) × AreInputOf (g.I.Inputs.files c.args.inputs.now) (file_of command) bytes × Ends command bytes c.classical_file.result in
+    subst P (sym c.in-Classical.is) c.classical_file.ensures.output

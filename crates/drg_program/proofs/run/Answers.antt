@@ -7,7 +7,7 @@ use Rattle.drg_program.specs.declared.command.Command.{Command}
 use Rattle.drg_program.specs.declared.status.Status.TheVariants.{OpenFault, Memory}
 use Rattle.drg_program.proofs.InputLemmas.{input_is_there, same_input}
 use Rattle.drg_program.proofs.RunLemmas.{decided}
-use Rattle.drg_program.proofs.WordLemmas.{of_each_command}
+use Rattle.drg_program.proofs.WordLemmas.{has_limits, of_each_command}
 use Rattle.drg_program.proofs.run.Goals as goal
 
 pub returns-in-Some-clause-missing : goal.returns-in-Some-clause-missing
@@ -39,3 +39,6 @@ returns-in-Some-clause-complete g c = λ command bytes is told opened read write
     (λ e. write (c.carry_out.ensures.write e))
     memory))
     told)
+
+pub carry_out-requires : goal.carry_out-requires
+carry_out-requires g c = has_limits c.in-Some.command (words_of c.args.words.now) c.in-Some.ensures.found
