@@ -10,9 +10,13 @@ Usage: python3 tools/check_examples.py
   that name in examples/derivations and the verdict on its claim. The report is the same where that test
   is the only one selected. Where it is one that can be selected and none is, the array is a survivor.
 - Each derivation, and each such report, is accepted by `drg replay` and by tools/replay.py.
-- Each derivation of examples/spectral is accepted by both, with the claim of its row in examples/README.md.
+- Each derivation of examples/spectral and of examples/triples is accepted by both, with the claim of its
+  row in examples/README.md.
 - Each text of examples/refused has the answer of its row in examples/README.md, by both. A text that is
   no derivation is named on standard error by the one, and on standard output by the other.
+- Each census of CENSUSES is that of tools/census.py. The census of the diameter, the valency and the number of
+  vertices of each array of examples/graphs has it, where there is one, and the classical parameters of the array
+  are those of tools/census.py.
 - Each list of edges of examples/edges is the one that tools/make_edges.py makes, and has the answer of its
   row in examples/README.md, by `drg graph` and by tools/graph_answer.py.
 - Each array of examples whose name begins with wide is undecided, by the number that WIDE names.
@@ -51,8 +55,17 @@ ROW = re.compile(
     r"\| [^|]+ \| `(?P<file>\w+)` \| `(?P<array>\{[\d,;]+\})` \| (?P<n>\d+) \| (?P<verdict>[a-z-]+) \|"
 )
 REFUSED_ROW = re.compile(r"\| `(?P<file>\w+)` \| `(?P<answer>(?:rejected|undecided|bad input,)[^`]+)` \|")
-SPECTRAL_ROW = re.compile(r"\| `\{[\d,;]+\}` \| `(?P<file>\w+)` \| `(?P<answer>accepted [^`]+ spectral)` \|")
+ACCEPTED_ROW = re.compile(r"\| `\{[\d,;]+\}` \| `(?P<file>\w+)` \| `(?P<answer>accepted [^`]+ (?P<kind>\w+))` \|")
+# The folders of derivations made without the program, and their class.
+UNWRITTEN = {"spectral": "spectral", "triples": "counting"}
 EDGES_ROW = re.compile(r"\| [^|]+ \| `(?P<file>\w+)` \| `(?P<answer>(?:array|single|apart|differ|far)\b[^`]*)` \|")
+# Small censuses, some of them without an array: diameter, valency and number of vertices.
+CENSUSES = [
+    *("1 1 2", "1 32 33", "2 3 8", "2 4 9", "2 5 16", "2 6 16", "2 8 27"),
+    *("3 3 14", "3 4 15", "3 5 12", "3 6 27", "4 3 14", "4 4 16"),
+]
+# The greatest diameter, valency and number of vertices of a census.
+CENSUS_LIMITS = (4, 32, 2000)
 EXAMPLE = re.compile(r"^\.EX\n\$ (?P<command>.*)\n(?P<printed>(?:.*\n)*?)\.EE$", re.MULTILINE)
 SURVIVOR, INFEASIBLE, REFUSED, UNDECIDED, ACCEPTED, REJECTED, BAD_INPUT = 0, 1, 2, 3, 0, 5, 65
 CANNOT_BUILD = 70
@@ -69,19 +82,31 @@ FAULTS = [
     ("$drg replay examples/petersen.txt", "bad input, line 1, place 0", BAD_INPUT),
     ("$drg graph", "usage", 64),
     ("$drg graph examples/petersen.txt", "bad input, line 1, place 0", BAD_INPUT),
+    ("$drg classical", "usage", 64),
+    ("echo '{3,2;1}' | $drg classical /dev/stdin", "bad input, line 1, place 7", BAD_INPUT),
+    ("$drg census 2 3", "usage", 64),
+    ("$drg census 5 3 10", "usage", 64),
+    ("$drg census 2 33 100", "usage", 64),
+    ("$drg census 2 3 2001", "usage", 64),
+    ("$drg census 2 03 10", "usage", 64),
     ("printf 'graph 3\\n1 1\\n' | $drg graph /dev/stdin", "bad input, line 2, place 0", BAD_INPUT),
     ("head -c 67108865 /dev/zero | $drg check /dev/stdin", "input too long", 66),
     ("head -c 67108865 /dev/zero | $drg replay /dev/stdin", "input too long", 66),
     ("head -c 67108865 /dev/zero | $drg graph /dev/stdin", "input too long", 66),
+    ("head -c 67108865 /dev/zero | $drg classical /dev/stdin", "input too long", 66),
     ("$drg check examples/nothing.txt", "cannot open", 67),
     ("$drg replay examples/nothing.txt", "cannot open", 67),
     ("$drg graph examples/nothing.txt", "cannot open", 67),
+    ("$drg classical examples/nothing.txt", "cannot open", 67),
     ("$drg check examples", "cannot read", 68),
     ("$drg replay examples", "cannot read", 68),
     ("$drg graph examples", "cannot read", 68),
+    ("$drg classical examples", "cannot read", 68),
     ("$drg check examples/petersen.txt >/dev/full", "cannot write", 69),
     ("$drg replay examples/derivations/size.txt >/dev/full", "cannot write", 69),
     ("$drg graph examples/edges/cube.txt >/dev/full", "cannot write", 69),
+    ("$drg census 2 4 9 >/dev/full", "cannot write", 69),
+    ("$drg classical examples/petersen.txt >/dev/full", "cannot write", 69),
     ("ulimit -v 50000; head -c 60000000 /dev/zero | $drg check /dev/stdin", "no memory", 71),
 ]
 LIMIT_SECONDS = 3600
@@ -232,17 +257,18 @@ def replay_cases():
                 yield holds(f"tools/replay.py {path}", wanted, other_replayer(path))
 
 
-def spectral_cases():
-    """Derivations of class spectral over several roots, by both replayers, against the table."""
+def unwritten_cases():
+    """The derivations made without the program, by both replayers, against the tables."""
     page = (EXAMPLES / "README.md").read_text(encoding="utf-8")
-    rows = {row["file"]: row["answer"] for row in SPECTRAL_ROW.finditer(page)}
-    same = rows.keys() == names_in("spectral")
-    yield is_true("examples/README.md: its table has each file of examples/spectral and no other", same)
-    for file, answer in sorted(rows.items()):
-        path = f"examples/spectral/{file}.txt"
-        wanted = writes([answer], ACCEPTED)
-        yield holds(f"drg replay {path}", wanted, drg("replay", path))
-        yield holds(f"tools/replay.py {path}", wanted, other_replayer(path))
+    for folder, kind in UNWRITTEN.items():
+        rows = {row["file"]: row["answer"] for row in ACCEPTED_ROW.finditer(page) if row["kind"] == kind}
+        same = rows.keys() == names_in(folder)
+        yield is_true(f"examples/README.md: its table has each file of examples/{folder} and no other", same)
+        for file, answer in sorted(rows.items()):
+            path = f"examples/{folder}/{file}.txt"
+            wanted = writes([answer], ACCEPTED)
+            yield holds(f"drg replay {path}", wanted, drg("replay", path))
+            yield holds(f"tools/replay.py {path}", wanted, other_replayer(path))
 
 
 def refused_cases():
@@ -273,6 +299,24 @@ def edge_cases():
         status = ACCEPTED if answer.startswith("array ") else REJECTED
         yield holds(f"drg graph {path}", writes([answer], status), drg("graph", path))
         yield holds(f"tools/graph_answer.py {path}", writes([answer], 0), run(sys.executable, "tools/graph_answer.py", path))
+
+
+def census_cases():
+    """The censuses and the classical parameters, by the program and by the other one."""
+    for numbers in CENSUSES:
+        words = numbers.split(" ")
+        wanted = run(sys.executable, "tools/census.py", *words)
+        yield holds(f"drg census {numbers}", wanted, drg("census", *words))
+    for file in sorted(names_in("graphs")):
+        array = content(f"graphs/{file}").strip()
+        k = sizes(array)
+        numbers = (len(k) - 1, k[1], sum(k))
+        if all(number <= most for number, most in zip(numbers, CENSUS_LIMITS)):
+            found = drg("census", *numbers)
+            yield is_true(f"drg census {numbers}: has {array}", array in found.out.decode().split("\n"))
+        path = f"examples/graphs/{file}.txt"
+        wanted = run(sys.executable, "tools/census.py", "classical", array)
+        yield holds(f"drg classical {path}", wanted, drg("classical", path))
 
 
 def fault_cases():
@@ -320,9 +364,10 @@ def main():
         graph_cases,
         failing_cases,
         replay_cases,
-        spectral_cases,
+        unwritten_cases,
         refused_cases,
         edge_cases,
+        census_cases,
         wide_cases,
         fault_cases,
         copy_cases,

@@ -349,6 +349,28 @@ class FieldNumber(NamedTuple):
         return self.b == 0 and self.a.denominator == 1 and self.a > 0
 
 
+Unknown = Tuple[int, int, int]  # the number [r s t]
+Room = Dict[Unknown, Tuple[int, int]]  # the low and the high bound of each
+
+
+class Equation(NamedTuple):
+    """A sum of terms and what it equals. No coefficient is 0."""
+
+    terms: Dict[Unknown, int]
+    right: int
+
+
+def sum_in(room: Room, terms: Dict[Unknown, int], greatest: bool) -> int:
+    """The least or the greatest sum of the terms in the room."""
+    total = 0
+    for unknown in sorted(terms):
+        coefficient = terms[unknown]
+        low, high = room[unknown]
+        bound = high if (coefficient > 0) == greatest else low
+        total = work(total + work(coefficient * bound))
+    return total
+
+
 def whole(n: int) -> FieldNumber:
     return FieldNumber(Fraction(n), Fraction(0))
 
@@ -387,6 +409,8 @@ class Judge:
         self.theta: List[FieldNumber] = []
         self.p: List[List[FieldNumber]] = []
         self.q: List[List[FieldNumber]] = []
+        self.equations: List[Equation] = []  # those made so far
+        self.rooms: Optional[List[Room]] = None  # of the open branches
 
     def judge(self) -> Answer:
         line = 3
@@ -411,8 +435,8 @@ class Judge:
         return in_range(self, *self.claim.numbers)
 
     def line_met(self, line: Line) -> bool:
-        if line.word not in LINE_RULES:
-            return False  # not judged yet
+        if line.word not in LINE_RULES or self.rooms == []:
+            return False  # not judged yet, or all branches are closed
         return LINE_RULES[line.word](self, line.numbers)
 
     def claim_closed(self) -> bool:
@@ -562,6 +586,163 @@ class Judge:
                     return False
         return True
 
+    # Triple intersection numbers.
+
+    def entry(self, h: int, i: int, j: int) -> Optional[int]:
+        """p^h_ij, or None where row i of h doesn't stand."""
+        row = self.row(h, i)
+        return None if row is None else row[j]
+
+    def live_type(self) -> Optional[Tuple[int, int, int]]:
+        """U, V and W of the claim where an eq line may stand, or None."""
+        if self.claim.name not in TRIPLES:
+            return None
+        u, v, w = self.claim.numbers
+        distances = range(1, self.array.d + 1)
+        if any(self.row(h, i) is None for h in (u, v, w) for i in distances):
+            return None
+        number = self.entry(w, v, u)
+        return (u, v, w) if number is not None and number > 0 else None
+
+    def first_room(self, u: int, v: int, w: int) -> Room:
+        """Each unknown from 0 to its high bound."""
+        distances = range(1, self.array.d + 1)
+        room: Room = {}
+        for r in distances:
+            for s in distances:
+                for t in distances:
+                    above = (self.entry(u, s, t), self.entry(v, r, t), self.entry(w, r, s))
+                    room[r, s, t] = (0, min(x for x in above if x is not None))
+        return room
+
+    def eq_met(self, numbers: List[int]) -> bool:
+        a, x, y = numbers
+        d, live = self.array.d, self.live_type()
+        if live is None or not (1 <= a <= 3 and 1 <= x <= d and 1 <= y <= d):
+            return False
+        u, v, w = live
+        h, fixed = [(u, (w, v)), (v, (w, u)), (w, (v, u))][a - 1]
+        entry = self.entry(h, x, y)
+        assert entry is not None
+        right = work(entry - (1 if (x, y) == fixed else 0))
+        if self.rooms is None:
+            self.rooms = [self.first_room(u, v, w)]
+        others = [(q, x, y) if a == 1 else (x, q, y) if a == 2 else (x, y, q) for q in range(1, d + 1)]
+        self.equations.append(Equation({unknown: 1 for unknown in others}, right))
+        return True
+
+    def is_equation(self, n: int) -> bool:
+        return 0 <= n < len(self.equations)
+
+    def is_unknown(self, r: int, s: int, t: int) -> bool:
+        return all(1 <= x <= self.array.d for x in (r, s, t))
+
+    def comb_met(self, numbers: List[int]) -> bool:
+        pairs = list(zip(numbers[1::2], numbers[2::2]))
+        if self.rooms is None or not all(self.is_equation(n) for n, _ in pairs):
+            return False
+        terms: Dict[Unknown, int] = {}
+        right = 0
+        for n, factor in pairs:
+            equation = self.equations[n]
+            for unknown, coefficient in equation.terms.items():
+                terms[unknown] = work(terms.get(unknown, 0) + work(factor * coefficient))
+            right = work(right + work(factor * equation.right))
+        left = {unknown: a for unknown, a in terms.items() if a != 0}
+        self.equations.append(Equation(left, right))
+        return True
+
+    def value_left(self, unknown: Unknown, n: int, least: bool) -> Optional[int]:
+        """The least or greatest value that equation n leaves to the unknown."""
+        assert self.rooms
+        equation = self.equations[n]
+        coefficient = equation.terms.get(unknown, 0)
+        if coefficient == 0:
+            return None
+        rest = {x: a for x, a in equation.terms.items() if x != unknown}
+        low_sum = sum_in(self.rooms[-1], rest, False)
+        high_sum = sum_in(self.rooms[-1], rest, True)
+        other = high_sum if (coefficient > 0) == least else low_sum
+        left = work(equation.right - other)
+        return -(-left // coefficient) if least else left // coefficient
+
+    def low_met(self, numbers: List[int]) -> bool:
+        r, s, t, v, n = numbers
+        if not self.rooms or not self.is_unknown(r, s, t) or not self.is_equation(n):
+            return False
+        value = self.value_left((r, s, t), n, True)
+        if value is None or value < v:
+            return False
+        low, high = self.rooms[-1][r, s, t]
+        self.rooms[-1][r, s, t] = (max(low, v), high)
+        return True
+
+    def high_met(self, numbers: List[int]) -> bool:
+        r, s, t, v, n = numbers
+        if not self.rooms or not self.is_unknown(r, s, t) or not self.is_equation(n):
+            return False
+        value = self.value_left((r, s, t), n, False)
+        if value is None or value > v:
+            return False
+        low, high = self.rooms[-1][r, s, t]
+        self.rooms[-1][r, s, t] = (low, min(high, v))
+        return True
+
+    def split_met(self, numbers: List[int]) -> bool:
+        r, s, t, v = numbers
+        if not self.rooms or not self.is_unknown(r, s, t):
+            return False
+        low, high = self.rooms[-1][r, s, t]
+        if not low <= v < high:
+            return False
+        above = self.rooms.pop()
+        below = dict(above)
+        above[r, s, t] = (v + 1, high)
+        below[r, s, t] = (low, v)
+        self.rooms += [above, below]
+        return True
+
+    def close_branch(self) -> bool:
+        assert self.rooms
+        self.rooms.pop()
+        return True
+
+    def miss_met(self, numbers: List[int]) -> bool:
+        (n,) = numbers
+        if not self.rooms or not self.is_equation(n):
+            return False
+        equation, room = self.equations[n], self.rooms[-1]
+        if equation.right >= sum_in(room, equation.terms, False):
+            if equation.right <= sum_in(room, equation.terms, True):
+                return False
+        return self.close_branch()
+
+    def mod_met(self, numbers: List[int]) -> bool:
+        n, g = numbers
+        if not self.rooms or not self.is_equation(n) or g < 2:
+            return False
+        equation, room = self.equations[n], self.rooms[-1]
+        fixed: List[int] = []
+        for unknown in sorted(equation.terms):
+            low, high = room[unknown]
+            if low < high and equation.terms[unknown] % g != 0:
+                return False
+        for unknown in sorted(equation.terms):
+            low, high = room[unknown]
+            if low == high:
+                fixed.append(work(equation.terms[unknown] * low))
+        rest = equation.right
+        for product in fixed:
+            rest = work(rest - product)
+        return rest % g != 0 and self.close_branch()
+
+    def void_met(self, numbers: List[int]) -> bool:
+        r, s, t = numbers
+        if not self.rooms or not self.is_unknown(r, s, t):
+            return False
+        low, high = self.rooms[-1][r, s, t]
+        return low > high and self.close_branch()
+
     # Claims: the ranges of their numbers, and where they are closed.
 
     def first_in_range(self) -> bool:
@@ -624,9 +805,18 @@ class Judge:
     def mult_closed(self, i: int) -> bool:
         return len(self.q) == self.array.d + 1 and not self.q[0][i].is_count()
 
+    def triple_in_range(self, u: int, v: int, w: int) -> bool:
+        return all(1 <= x <= self.array.d for x in (u, v, w))
+
+    def triple_closed(self, u: int, v: int, w: int) -> bool:
+        return self.rooms == []
+
 
 # The claims of class spectral.
 SPECTRAL = ("mult", "krein", "absolute", "ktriple")
+
+# The claims that name a type of triples.
+TRIPLES = ("triple",)
 
 # Each line of evidence that is judged: where it is met.
 LINE_RULES: Dict[str, Callable[[Judge, List[int]], bool]] = {
@@ -636,6 +826,14 @@ LINE_RULES: Dict[str, Callable[[Judge, List[int]], bool]] = {
     "theta": Judge.theta_met,
     "prow": Judge.prow_met,
     "qrow": Judge.qrow_met,
+    "eq": Judge.eq_met,
+    "comb": Judge.comb_met,
+    "low": Judge.low_met,
+    "high": Judge.high_met,
+    "split": Judge.split_met,
+    "miss": Judge.miss_met,
+    "mod": Judge.mod_met,
+    "void": Judge.void_met,
 }
 
 # Each claim that is judged: where its line is met, and where it is closed.
@@ -650,6 +848,7 @@ CLAIM_RULES: Dict[str, Tuple[Callable[..., bool], Callable[..., bool]]] = {
     "induced": (Judge.induced_in_range, Judge.induced_closed),
     "mult": (Judge.one_to_d, Judge.mult_closed),
     "triangles": (Judge.one_to_d, Judge.triangles_closed),
+    "triple": (Judge.triple_in_range, Judge.triple_closed),
 }
 
 
