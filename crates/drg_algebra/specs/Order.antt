@@ -46,7 +46,7 @@ PositiveRoot r Above d z =
     ⊎ ((Above z.a × Above (r.minus z.b) × Less r Above (r.times d (r.times z.b z.b)) (r.times z.a z.a))
     ⊎ (Above (r.minus z.a) × Above z.b × Less r Above (r.times z.a z.a) (r.times d (r.times z.b z.b))))
 
--- the same for rationals a and b
+-- a + b √root is positive, for rationals a and b
 abbrev pub IsPositive : ℕ → Pair ℚ → Type 0
 IsPositive root z = PositiveRoot rational_numbers IsAbove (whole (pos root)) z
 

@@ -32,7 +32,7 @@ IsClaimOf t claim = name_of claim ≡ OfTest t
 abbrev pub name_number : ClaimName → ℕ
 name_number (OfTest t) = test_number t
 
--- and that of a claim
+-- the place of a claim's name in the order of claims
 abbrev pub claim_number : Claim → ℕ
 claim_number claim = name_number (name_of claim)
 

@@ -18,6 +18,6 @@ module _ {V : Type 0} (o : Operations V) where
   FailsMult d q (Mult i) = (1 ≤ i) × (i ≤ d) × (¬ IsPositiveWhole (multiplicity q i))
   FailsMult d q claim = ⊥
 
--- the same of the tables of a frame
+-- The claim is one of the test mult, and fails at its index in the tables of a frame.
 abbrev pub FrameFailsMult : {A V : Type 0} → (A → V) → (ℕ → Operations V) → FrameTables A → Claim → Type 0
 FrameFailsMult value operations t claim = FailsMult (operations (root_of_tables t)) (diameter_of t) (dual_in value operations t) claim

@@ -50,7 +50,7 @@ abbrev pub AreTwice : ℤ → ℕ → Type 0
 AreTwice (pos m) count = (1 ≤ m) × (count ≡ 2 * m)
 AreTwice (negsuc m) count = ⊥
 
--- so many numbers follow the leading ones, where this is the first number of the line
+-- After its leading numbers a line with such a tail has `count` more, where `first` is the first number of the line.
 abbrev pub HasTail : Context → Tail → ℤ → ℕ → Type 0
 HasTail context Nothing first count = count ≡ 0
 HasTail context Sizes first count = (1 ≤ count) × (count ≤ context.d + 1)

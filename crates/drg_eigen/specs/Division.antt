@@ -28,7 +28,8 @@ abbrev pub work_numbers : Factor → ℤ → ℤ → ℤ → List ℤ
 work_numbers (linear r) p q g = (q -ℤ g) ∷ []
 work_numbers (quadratic s t) p q g = (s *ℤ q) ∷ (g +ℤ s *ℤ q) ∷ ((g +ℤ s *ℤ q) -ℤ p) ∷ []
 
--- those of the coefficients in the list and up to the first quotient that isn't whole are in range
+-- The work numbers of the coefficients in the list, up to the first quotient that isn't whole, are in range, where p and q
+-- are the last two coefficients of the quotient.
 abbrev pub FitsFrom : Factor → ℤ → ℤ → List ℤ → Type 0
 FitsFrom c p q [] = Unit {0}
 FitsFrom c p q (g ∷ gs) = AllByRecursion InRange (work_numbers c p q g) × ((u : ℤ) → divisor c *ℤ u ≡ numerator c p q g → FitsFrom c q u gs)

@@ -29,7 +29,7 @@ n_of numbers = unsigned_abs numbers.vertices
 abbrev pub p_at : Numbers → ℕ → ℕ → ℕ → ℕ
 p_at numbers h i j = unsigned_abs (slice_index_or numbers.table (place numbers.d h i j) (pos 0))
 
--- These are the numbers of the array.
+-- These are the diameter, the sizes, the number of vertices and the intersection numbers of the array.
 pub record AreNumbersOf (a : Entries) (numbers : Numbers) : Type 0 where
   pub same_d : numbers.d ≡ diameter a
   pub sizes : (i : ℕ) → i ≤ diameter a → size a i ≡ whole (pos (k_at numbers i))

@@ -5,7 +5,7 @@ use Rattle.std.specs.Prelude.{◌≡◌, Bool, true, false, nat_lt, ◌<◌, ◌
 abbrev pub InRange : ℤ → Type 0
 InRange z = unsigned_abs z < 2 ^ 127
 
--- the same as a test
+-- whether z lies from -(2^127 - 1) to 2^127 - 1
 abbrev pub in_range : ℤ → Bool
 in_range z = nat_lt (unsigned_abs z) (2 ^ 127)
 
