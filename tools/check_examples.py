@@ -12,15 +12,15 @@ Usage: python3 tools/check_examples.py
 - Each derivation, and each such report, is accepted by `drg replay` and by tools/replay.py.
 - Each derivation of examples/spectral and of examples/triples is accepted by both, with the claim of its
   row in examples/README.md.
-- Each text of examples/refused has the answer of its row in examples/README.md, by both. A text that is
-  no derivation is named on standard error by the one, and on standard output by the other.
+- Each text of examples/refused has the answer of its row in examples/README.md, by both.
 - Each census of CENSUSES is that of tools/census.py. The census of the diameter, the valency and the number of
   vertices of each array of examples/graphs has it, where there is one, and the classical parameters of the array
   are those of tools/census.py.
 - Each list of edges of examples/edges is the one that tools/make_edges.py makes, and has the answer of its
   row in examples/README.md, by `drg graph` and by tools/graph_answer.py.
 - Each array of examples whose name begins with wide is undecided, by the number that WIDE names.
-- Each fault of FAULTS ends with its line on standard error and its exit number, and nothing is written.
+- Each fault of FAULTS ends with its line on standard error and its exit number, and nothing is written. Those of
+  `drg replay` do so by tools/replay.py too, and of several files it answers each as if it stood alone.
 - examples/petersen.txt and examples/degree.txt are copies of the files of their names further down.
 - Each example of man/drg.1 prints what the page shows.
 
@@ -79,7 +79,11 @@ FAULTS = [
     ("$drg check $'\\xff'", "usage", 64),
     ("echo '{3,2;1}' | $drg check /dev/stdin", "bad input, line 1, place 7", BAD_INPUT),
     ("$drg check /dev/null", "bad input, line 1, place 1", BAD_INPUT),
+    ("$drg replay", "usage", 64),
+    ("$drg replay -", "usage", 64),
+    ("$drg replay $'\\xff'", "usage", 64),
     ("$drg replay examples/petersen.txt", "bad input, line 1, place 0", BAD_INPUT),
+    ("$drg replay ''", "cannot open", 67),
     ("$drg graph", "usage", 64),
     ("$drg graph examples/petersen.txt", "bad input, line 1, place 0", BAD_INPUT),
     ("$drg classical", "usage", 64),
@@ -137,8 +141,8 @@ def drg(*words):
     return run(TOP / "bin" / "drg", *words)
 
 
-def other_replayer(path):
-    return run(sys.executable, "tools/replay.py", path)
+def other_replayer(*paths):
+    return run(sys.executable, "tools/replay.py", *paths)
 
 
 def writes(lines, status):
@@ -283,7 +287,7 @@ def refused_cases():
         is_text = status != BAD_INPUT
         wanted = writes([answer], status) if is_text else complains(f"{answer}, place 0", status)
         yield holds(f"drg replay {path}", wanted, drg("replay", path))
-        yield holds(f"tools/replay.py {path}", writes([answer], status), other_replayer(path))
+        yield holds(f"tools/replay.py {path}", wanted, other_replayer(path))
 
 
 def edge_cases():
@@ -324,6 +328,22 @@ def fault_cases():
     for command, line, status in FAULTS:
         found = run("bash", "-c", f"drg={TOP / 'bin' / 'drg'}; {command}")
         yield holds(command.replace("$drg", "drg"), complains(line, status), found)
+    yield from other_fault_cases()
+
+
+def other_fault_cases():
+    """The faults of `drg replay` by tools/replay.py, and several files at once."""
+    for command, line, status in FAULTS:
+        if "$drg replay" in command:
+            shown = command.replace("$drg replay", "tools/replay.py")
+            found = run("bash", "-c", command.replace("$drg replay", f"{sys.executable} tools/replay.py"))
+            yield holds(shown, complains(line, status), found)
+    size, row, fault = (f"examples/{name}.txt" for name in ("derivations/size", "refused/wrong_row", "petersen"))
+    lines = ["accepted size 2 counting", "rejected line 4"]
+    yield holds(f"tools/replay.py {size} {size}", writes(lines[:1] * 2, ACCEPTED), other_replayer(size, size))
+    yield holds(f"tools/replay.py {size} {row}", writes(lines, REJECTED), other_replayer(size, row))
+    wanted = writes(lines, BAD_INPUT)._replace(err=complains("bad input, line 1, place 0", BAD_INPUT).err)
+    yield holds(f"tools/replay.py {size} {fault} {row}", wanted, other_replayer(size, fault, row))
 
 
 def wide_cases():

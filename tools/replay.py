@@ -7,18 +7,26 @@ the two give different answers for a file, one of them or the page is wrong.
 
     python3 tools/replay.py FILE..
 
-prints one line for each FILE, in their order:
+writes for one FILE what `drg replay FILE` writes, to the same stream, and
+ends with the same number:
 
-    accepted CLAIM CLASS    every line is met and the claim is closed
-    rejected line L         line L is the first that isn't met
-    rejected open L         every line is met, but the claim isn't closed
-    undecided wide L        a work number of line L passes 2^127-1
-    bad input, line L       line L isn't what may stand in its place
-    cannot read             the file can't be read (the reason is on stderr)
+    accepted CLAIM CLASS            0   every line is met, the claim is closed
+    undecided wide L                3   a work number of line L passes 2^127-1
+    rejected line L                 5   line L is the first that isn't met
+    rejected open L                 5   every line is met, the claim isn't closed
 
-Exit status of one file: 0 accepted, 5 rejected, 3 undecided, 65 bad input,
-66 cannot read. Of several files: 0 where all are accepted, else 1.
-Without a FILE: 64.
+These are written to standard output. The others go to standard error:
+
+    drg: usage                      64  no FILE, or one that begins with -
+    drg: bad input, line L, place 0 65  line L isn't what may stand there
+    drg: input too long             66  the file has more than 67,108,864 bytes
+    drg: cannot open                67
+    drg: cannot read                68
+    drg: cannot write               69
+    drg: no memory                  71
+
+Of several files each is judged, in their order, as if it stood alone. The
+exit number is 0 where all are accepted, else that of the first that isn't.
 
 A file is read to its `end` line before it is judged, so a text that isn't a
 derivation is bad input even where a line further up wouldn't be met.
@@ -28,6 +36,7 @@ judged, a method in Judge and an entry in LINE_RULES. A claim is an entry in
 CLAIMS and, once it is judged, two methods and an entry in CLAIM_RULES.
 """
 
+import os
 import re
 import sys
 from fractions import Fraction
@@ -38,17 +47,22 @@ BOUND = 2**127 - 1
 MAX_DIAMETER = 12
 MAX_ENTRY = 4095
 MAX_CLAIM_NUMBER = 255
+MAX_INPUT_BYTES = 67_108_864
+PIECE_BYTES = 1 << 20
 
 NUMBER = re.compile(rb"0|-?[1-9][0-9]*")
 MAX_NUMBER_BYTES = len(str(-BOUND))
 
 EXIT_ACCEPTED = 0
-EXIT_SOME_NOT_ACCEPTED = 1
 EXIT_UNDECIDED = 3
 EXIT_REJECTED = 5
 EXIT_USAGE = 64
 EXIT_BAD_INPUT = 65
-EXIT_CANNOT_READ = 66
+EXIT_TOO_LONG = 66
+EXIT_CANNOT_OPEN = 67
+EXIT_CANNOT_READ = 68
+EXIT_CANNOT_WRITE = 69
+EXIT_NO_MEMORY = 71
 
 
 class NotANumber(Exception):
@@ -68,10 +82,14 @@ class Wide(Exception):
 
 
 class Answer(NamedTuple):
-    """What is printed for a file, and its exit status."""
+    """The line that is written for a file, and its exit number."""
 
     text: str
     status: int
+
+    def is_refusal(self) -> bool:
+        """Whether nothing was judged, so that the line goes to standard error."""
+        return self.status >= EXIT_USAGE
 
 
 class Array(NamedTuple):
@@ -857,38 +875,78 @@ CLAIM_RULES: Dict[str, Tuple[Callable[..., bool], Callable[..., bool]]] = {
 # ---------------------------------------------------------------------------
 
 
+def read_file(handle: int) -> bytes:
+    """The bytes of an open file; one more than the limit where it has more."""
+    pieces: List[bytes] = []
+    left = MAX_INPUT_BYTES + 1
+    while left > 0:
+        piece = os.read(handle, min(left, PIECE_BYTES))
+        if not piece:
+            break
+        pieces.append(piece)
+        left -= len(piece)
+    return b"".join(pieces)
+
+
 def answer_bytes(data: bytes) -> Answer:
+    if len(data) > MAX_INPUT_BYTES:
+        return Answer("input too long", EXIT_TOO_LONG)
     try:
         derivation = Reader(data).read()
     except BadInput as bad:
-        return Answer(f"bad input, line {bad.line}", EXIT_BAD_INPUT)
+        return Answer(f"bad input, line {bad.line}, place 0", EXIT_BAD_INPUT)
     return Judge(derivation).judge()
 
 
 def answer_file(path: str) -> Answer:
     try:
-        with open(path, "rb") as file:
-            data = file.read()
-    except OSError as error:
-        print(f"{path}: {error.strerror}", file=sys.stderr)
+        handle = os.open(path, os.O_RDONLY)
+    except OSError:
+        return Answer("cannot open", EXIT_CANNOT_OPEN)
+    try:
+        data = read_file(handle)
+    except OSError:
         return Answer("cannot read", EXIT_CANNOT_READ)
+    finally:
+        os.close(handle)
     return answer_bytes(data)
 
 
+def is_name(word: str) -> bool:
+    """Whether the program takes the word as the name of a file."""
+    try:
+        os.fsencode(word).decode("utf-8")
+    except UnicodeDecodeError:
+        return False
+    return not word.startswith("-")
+
+
+def write(answer: Answer) -> int:
+    """Writes the answer's line to its stream; the exit number of the file."""
+    if answer.is_refusal():
+        sys.stderr.write(f"drg: {answer.text}\n")
+        return answer.status
+    text = f"{answer.text}\n".encode("ascii")
+    try:
+        while text:
+            text = text[os.write(sys.stdout.fileno(), text) :]
+    except OSError:
+        return write(Answer("cannot write", EXIT_CANNOT_WRITE))
+    return answer.status
+
+
+def answer(path: str) -> Answer:
+    try:
+        return answer_file(path)
+    except MemoryError:
+        return Answer("no memory", EXIT_NO_MEMORY)
+
+
 def main(paths: List[str]) -> int:
-    if not paths:
-        print("usage: replay.py FILE..", file=sys.stderr)
-        return EXIT_USAGE
-    statuses: List[int] = []
-    for path in paths:
-        answer = answer_file(path)
-        print(answer.text)
-        statuses.append(answer.status)
-    if len(statuses) == 1:
-        return statuses[0]
-    if all(status == EXIT_ACCEPTED for status in statuses):
-        return EXIT_ACCEPTED
-    return EXIT_SOME_NOT_ACCEPTED
+    if not paths or not all(is_name(path) for path in paths):
+        return write(Answer("usage", EXIT_USAGE))
+    statuses = [write(answer(path)) for path in paths]
+    return next((status for status in statuses if status != EXIT_ACCEPTED), EXIT_ACCEPTED)
 
 
 if __name__ == "__main__":
