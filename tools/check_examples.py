@@ -19,6 +19,7 @@ Usage: python3 tools/check_examples.py
 - Each list of edges of examples/edges is the one that tools/make_edges.py makes, and has the answer of its
   row in examples/README.md, by `drg graph` and by tools/graph_answer.py.
 - Each array of examples whose name begins with wide is undecided, by the number that WIDE names.
+- Each text of the table of docs/limits.md is refused at the place that stands there.
 - Each fault of FAULTS ends with its line on standard error and its exit number, and nothing is written. Those of
   `drg replay` do so by tools/replay.py too, and of several files it answers each as if it stood alone.
 - examples/petersen.txt and examples/degree.txt are copies of the files of their names further down.
@@ -58,6 +59,7 @@ REFUSED_ROW = re.compile(r"\| `(?P<file>\w+)` \| `(?P<answer>(?:rejected|undecid
 ACCEPTED_ROW = re.compile(r"\| `\{[\d,;]+\}` \| `(?P<file>\w+)` \| `(?P<answer>accepted [^`]+ (?P<kind>\w+))` \|")
 # The folders of derivations made without the program, and their class.
 UNWRITTEN = {"spectral": "spectral", "triples": "counting"}
+TEXT_ROW = re.compile(r"^\| `(?P<text>[^`]+)` \| (?P<place>\d+) \| ", re.MULTILINE)
 EDGES_ROW = re.compile(r"\| [^|]+ \| `(?P<file>\w+)` \| `(?P<answer>(?:array|single|apart|differ|far)\b[^`]*)` \|")
 # Small censuses, some of them without an array: diameter, valency and number of vertices.
 CENSUSES = [
@@ -346,6 +348,18 @@ def other_fault_cases():
     yield holds(f"tools/replay.py {size} {fault} {row}", wanted, other_replayer(size, fault, row))
 
 
+def text_cases():
+    """The texts of the table of docs/limits.md, which are no arrays."""
+    rows = list(TEXT_ROW.finditer((TOP / "docs" / "limits.md").read_text(encoding="utf-8")))
+    yield is_true("docs/limits.md: has a table of texts", len(rows) > 0)
+    for row in rows:
+        wanted = complains(f"bad input, line 1, place {row['place']}", BAD_INPUT)
+        with tempfile.NamedTemporaryFile() as file:
+            file.write(row["text"].encode() + b"\n")
+            file.flush()
+            yield holds(f"drg check on {row['text']}", wanted, drg("check", file.name))
+
+
 def wide_cases():
     """The arrays that are undecided."""
     found = {path.stem for path in EXAMPLES.glob("wide*.txt")}
@@ -389,6 +403,7 @@ def main():
         edge_cases,
         census_cases,
         wide_cases,
+        text_cases,
         fault_cases,
         copy_cases,
         page_cases,
