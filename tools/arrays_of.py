@@ -16,14 +16,15 @@ It finds these, anywhere in the text:
 
 and these where nothing else stands in the line:
 
+    Petersen,"{3,2;1,1}"   a record of a CSV table with a name and an array
     3,2;1,1        an array without braces
     [3,2,1,1]      one list, first the b and then the c
     10 3 0 1       strongly regular parameters
 
 Strongly regular parameters become the array {k,k-lambda-1;1,mu}, where a connected graph of diameter 2 has them and
 k (k-lambda-1) is (v-k-1) mu. The name of an array that is alone in its line is what stands before it, else what stands
-behind it, if that is at most 40 characters long; every other array has an empty one. An array that was written before
-isn't written again, with --table where it has the same name too.
+behind it, if that is at most 40 characters long; every other array has an empty one, but for those of a table. An
+array that was written before isn't written again, with --table where it has the same name too.
 
 What looks like one of these and is none goes to standard error, with its line and the reason. The exit number is 0
 where an array was written, 1 where none was, 64 where the words are wrong, and 67 where a file can't be read.
@@ -66,7 +67,7 @@ ALONE = [
 DIVIDERS = re.compile(r"[;:|]")
 # What is no part of a name: the words that lead up to an array, and signs at the ends.
 LEADS = re.compile(r"(?i)(?:[\s,(]*\b(?:with|has|have|its|the|intersection|array|parameters|srg))+\W*$")
-EDGE = " \t\r\n&,:;=.-\"'`()[]*|\\"
+EDGE = " \t\r\n&,:;=.-\"'`[]*|\\"
 
 
 class LeftOut(Exception):
@@ -81,6 +82,7 @@ class Found(NamedTuple):
     parts: Tuple[str, ...]
     begin: int
     end: int
+    name: Optional[str] = None  # where a table says it
 
 
 def plain(text: str) -> str:
@@ -184,18 +186,34 @@ def found_alone(text: str) -> Iterator[Found]:
         begin += len(row) + 1
 
 
+def found_in_table(text: str) -> Iterator[Found]:
+    """The records of a table: a name, and an array in braces."""
+    begin = 0
+    for row in text.split("\n"):
+        if "{" in row and "," in row:
+            cells = next(csv.reader([row]), [])
+            match = re.fullmatch(r"\s*\{([^{}]*;[^{}]*)\}\s*", cells[1]) if len(cells) == 2 else None
+            if match:
+                yield Found(cells[1].strip(), "braced", (match.group(1),), begin, begin + len(row), cells[0].strip())
+        begin += len(row) + 1
+
+
 def found_in(text: str) -> List[Found]:
     """All places of a plain text that look like an array, in their order."""
-    found = list(found_anywhere(text))
-    taken = {place for item in found for place in (item.begin, item.end - 1)}
-    found += [item for item in found_alone(text) if taken.isdisjoint(range(item.begin, item.end))]
+    found: List[Found] = []
+    taken: set = set()  # the places of what is found
+    for items in (found_in_table(text), found_anywhere(text), found_alone(text)):
+        more = [item for item in items if taken.isdisjoint(range(item.begin, item.end))]
+        taken.update(place for item in more for place in range(item.begin, item.end))
+        found += more
     return sorted(found, key=lambda item: item.begin)
 
 
 def name_in(text: str) -> str:
     """A name that stands in a text beside an array, or nothing."""
     text = re.sub(r"\\[A-Za-z]+\s*", " ", re.sub(rf"[{{}}{OPEN}{SHUT}]", " ", text))
-    cells = [LEADS.sub("", " ".join(cell.split())).strip(EDGE) for cell in re.split(r"[&\t]", text)]
+    cells = [LEADS.sub("", " ".join(cell.split())) for cell in re.split(r"[&\t]", text)]
+    cells = [cell.strip(EDGE).lstrip(")").rstrip("(").strip(EDGE) for cell in cells]
     name = next((cell for cell in cells if re.search(r"[^\W\d_]", cell)), "")
     return name if len(name) <= MAX_NAME else ""
 
@@ -214,6 +232,8 @@ class Text:
     def name(self, number: int) -> str:
         """What the text calls the array that was found with this number, from 0; nothing where it has no name."""
         item, line = self.found[number], self.lines[number]
+        if item.name is not None:
+            return item.name
         if self.in_line[line] > 1:
             return ""
         end = self.text.find("\n", item.end)

@@ -19,6 +19,7 @@ Usage: python3 tools/check_examples.py
 - Each list of edges of examples/edges is the one that tools/make_edges.py makes, and has the answer of its
   row in examples/README.md, by `drg graph` and by tools/graph_answer.py.
 - Each array of examples whose name begins with wide is undecided, by the number that WIDE names.
+- Each array of the tables of examples/tables has the verdict that stands beside it in examples/tables/README.md.
 - Each text of the table of docs/limits.md is refused at the place that stands there.
 - Each fault of FAULTS ends with its line on standard error and its exit number, and nothing is written. Those of
   `drg replay` do so by tools/replay.py too, and of several files it answers each as if it stood alone.
@@ -36,6 +37,8 @@ import tempfile
 from pathlib import Path
 from typing import NamedTuple
 
+from check_tables import TESTS as TABLE_TESTS
+from check_tables import rows_of_page
 from make_edges import made
 from spectrum import spectrum_lines
 
@@ -348,6 +351,18 @@ def other_fault_cases():
     yield holds(f"tools/replay.py {size} {fault} {row}", wanted, other_replayer(size, fault, row))
 
 
+def table_cases():
+    """The tables of arrays, against the words beside them."""
+    for table, rows in rows_of_page().items():
+        for row in rows:
+            with tempfile.NamedTemporaryFile() as file:
+                file.write(row.array.encode() + b"\n")
+                file.flush()
+                found = drg("check", "--tests", TABLE_TESTS, file.name).out.decode().split("\n")
+            same = [line for line in found if line.startswith("verdict ")] == [f"verdict {row.verdict}"]
+            yield is_true(f"examples/tables/{table}.csv: {row.array} is {row.verdict}", same)
+
+
 def text_cases():
     """The texts of the table of docs/limits.md, which are no arrays."""
     rows = list(TEXT_ROW.finditer((TOP / "docs" / "limits.md").read_text(encoding="utf-8")))
@@ -403,6 +418,7 @@ def main():
         edge_cases,
         census_cases,
         wide_cases,
+        table_cases,
         text_cases,
         fault_cases,
         copy_cases,
