@@ -30,7 +30,8 @@ A record has its fields under its words, each with the words beside it. Of a def
 law, the arrow shows what it concludes, or what it is.
 
 The page has two parts. What the clauses of `run` and `replay` say is made of the \
-[first part](#what-run-and-replay-rest-on): who wants to believe the headline reads it alone. The \
+[first part](#what-run-and-replay-rest-on): who wants to believe the headline reads it alone, in \
+the order of [reading.md](reading.md#what-to-read-for-the-headline). The \
 [second part](#the-other-definitions) is scaffolding: what crates promise each other, the laws that proofs use, and \
 small cases.
 """
