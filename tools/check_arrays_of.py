@@ -1,10 +1,11 @@
 #!/usr/bin/env python3
-"""Checks tools/arrays_of.py on a table of texts.
+"""Checks tools/arrays_of.py and tools/edges_of.py on tables of texts.
 
 Usage: python3 tools/check_arrays_of.py
 
 Each text of CASES is one case: what is written of it and what is left out, with the reason. A table that was written
-is read again, and is the same. The last line printed is 'N passed, M failed', and the exit status is 0 where M is 0.
+is read again, and is the same. Each text of EDGES is one case: its list of edges, or its line on standard error.
+The last line printed is 'N passed, M failed', and the exit status is 0 where M is 0.
 """
 import subprocess
 import sys
@@ -12,7 +13,7 @@ import tempfile
 from pathlib import Path
 from typing import List, NamedTuple, Tuple
 
-TOOL = Path(__file__).resolve().parent / "arrays_of.py"
+TOOLS = Path(__file__).resolve().parent
 LIMIT_SECONDS = 60
 LONG = ",".join(["1"] * 13)
 
@@ -99,10 +100,22 @@ TABLES = [
 ]
 
 
-def run(words, text=""):
-    """What the tool writes on standard output and standard error, and its exit number."""
+# Texts with edges: the list that is written, the line on standard error, and the exit number.
+EDGES = [
+    ("1 2\n2 3\n3 1\n", "graph 3\n0 1\n1 2\n2 0\n", "", 0),
+    ("7 10\n10 9\n", "graph 3\n0 2\n2 1\n", "", 0),
+    ("# a path\n[(a, b),\n(b, \"c\")]\n\n", "graph 3\n0 1\n1 2\n", "", 0),
+    ("x;y\n", "graph 2\n0 1\n", "", 0),
+    ("", "graph 0\n", "", 0),
+    ("1 2\n1 2 3\n", "", "line 2: hasn't two names\n", 65),
+    ("1 2\n3\n", "", "line 2: hasn't two names\n", 65),
+]
+
+
+def run(words, text="", tool="arrays_of.py"):
+    """What a tool writes on standard output and standard error, and its exit number."""
     done = subprocess.run(
-        [sys.executable, TOOL, *words],
+        [sys.executable, TOOLS / tool, *words],
         input=text.encode(),
         stdout=subprocess.PIPE,
         stderr=subprocess.PIPE,
@@ -134,6 +147,8 @@ def cases():
         yield holds("two files", ("{3,2;1,1}\n{4,1;1,4}\n", error, 0), run([first, second]))
         error = f"{folder}/none: No such file or directory\n"
         yield holds("no such file", ("", error, 67), run([f"{folder}/none"]))
+    for text, lines, error, status in EDGES:
+        yield holds(text, (lines, error, status), run([], text, "edges_of.py"))
     yield holds("--other", ("", "usage: arrays_of.py [--table] [FILE..]\n", 64), run(["--other"]))
 
 

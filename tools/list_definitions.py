@@ -55,6 +55,8 @@ IMPORT = re.compile(
 )
 TOKEN = re.compile(r"[^\s(){}\[\],;]+")
 TYPE = re.compile(r"^\s*pub(?:\([^)]*\))? (?:struct|enum|trait) (?P<name>\w+)")
+# The name of a variant of an enum, at the front of its line.
+VARIANT = re.compile(r"^\s*[A-Z]\w*(?=\s*[,({])")
 Key = Tuple[str, str, str]  # a crate, a file (of specs/, or of src/ for a type), and a name
 
 
@@ -67,7 +69,7 @@ class Definition(NamedTuple):
 
 def joined(comments):
     """The words of comment lines that stand together."""
-    return " ".join(comment.strip() for comment in comments).strip()
+    return " ".join(" ".join(comments).split())
 
 
 def begins_definition(line):
@@ -210,6 +212,7 @@ class Library:
         lines = (TOP / "crates.txt").read_text(encoding="utf-8").split("\n")
         names = [line.split("#")[0].split(":")[0].strip() for line in lines]
         self.crates = {name: Crate(name) for name in names if name and (TOP / "crates" / name / "specs").is_dir()}
+        self.uses = {name: line.split(":")[-1].split() for name, line in zip(names, lines)}
 
     def definition(self, key):
         crate, file, name = key
@@ -246,10 +249,11 @@ class Library:
         """The type of a crate's code with this name."""
         return [(crate, f"src/{file}", name) for file, types in self.crates[crate].types.items() if name in types.types]
 
-    def type_named(self, token):
-        """The type of the code with this name, in the first crate that has one."""
-        name = token.split("<")[0].lstrip("&")
-        return [key for crate in self.crates for key in self.type_of(crate, name)][:1]
+    def type_named(self, token, crate):
+        """The type that the code of a crate calls so: its own, or that of the first crate that it uses."""
+        name = re.sub(r"\W", " ", token).split()
+        near = [crate] + [other for other in self.uses[crate] if other in self.crates]
+        return [key for other in near for key in self.type_of(other, name[0] if name else "")][:1]
 
     def used_by(self, key):
         """The keys that a definition or a type uses."""
@@ -260,8 +264,8 @@ class Library:
             lines, imports, local = types.types[name][1], types.imports, {}
             for line in lines:
                 if "ghost" not in line:
-                    for token in re.findall(r"[A-Z]\w+", line):
-                        found += self.type_of(crate, token)[:1] or self.type_named(token)
+                    for token in re.findall(r"[A-Z]\w+", VARIANT.sub("", line)):
+                        found += self.type_named(token, crate)
         else:
             spec = self.crates[crate].specs[file]
             lines = [line for item in self.definition(key) for line in item.text]
@@ -281,7 +285,7 @@ class Library:
             lines = self.crates[crate].contract(file, function)
             imports = imports_of((TOP / "crates" / crate / "src" / f"{file}.rt").read_text(encoding="utf-8"))
             for token in set(TOKEN.findall("\n".join(lines))):
-                waiting += self.named(token, imports, crate, {}) or self.type_named(token)
+                waiting += self.named(token, imports, crate, {}) or self.type_named(token, crate)
         seen: Set[Key] = set()
         while waiting:
             key = waiting.pop()
