@@ -92,7 +92,7 @@ TABLES = [
     ('petersen,"{3, 2; 1, 1}"\n', 'petersen,"{3,2;1,1}"\n'),
     ('"K, with a comma",{3;1}\n', '"K, with a comma",{3;1}\n'),
     ('"srg(10,3,0,1)","{3,2;1,1}"\n', '"srg(10,3,0,1)","{3,2;1,1}"\n'),
-    ('"a record with {3;1} in its name, which is long","{ 3;1 }"\n', '"a record with {3;1} in its name, which is long",{3;1}\n'),
+    ('"{3;1} in a name, of any length in a record","{ 3;1 }"\n', '"{3;1} in a name, of any length in a record",{3;1}\n'),
     ("Johnson graph J(6,3) ({9,4,1;1,4,9})\n", '"Johnson graph J(6,3)","{9,4,1;1,4,9}"\n'),
     ("{4,1;1,4}\n", ',"{4,1;1,4}"\n'),
     ("{4,1;1,4} and {3;1}\n", ',"{4,1;1,4}"\n,{3;1}\n'),
@@ -106,7 +106,7 @@ EDGES = [
     ("7 10\n10 9\n", "graph 3\n0 2\n2 1\n", "", 0),
     ("# a path\n[(a, b),\n(b, \"c\")]\n\n", "graph 3\n0 1\n1 2\n", "", 0),
     ("x;y\n", "graph 2\n0 1\n", "", 0),
-    ("", "graph 0\n", "", 0),
+    ("# none\n", "", "no line has names\n", 65),
     ("1 2\n1 2 3\n", "", "line 2: hasn't two names\n", 65),
     ("1 2\n3\n", "", "line 2: hasn't two names\n", 65),
 ]

@@ -8,8 +8,8 @@ between names; brackets, quotes and empty lines don't count, and neither does wh
 line. The vertices become 0 to N-1: in the order of their numbers, where all names are numbers, and else in the order
 in which they come. A vertex without an edge has no line, so it isn't there.
 
-The exit number is 65 where a line hasn't two names, which is told on standard error, and 67 where the file can't be
-read.
+The exit number is 65 where a line hasn't two names, or where none has, which is told on standard error, and 67 where
+the file can't be read.
 """
 import re
 import sys
@@ -20,13 +20,15 @@ BETWEEN = re.compile(r"[\s,;()\[\]{}\"']+")
 
 
 def pairs_of(text: str) -> List[List[str]]:
-    """The names of each line that has some; ValueError with the number of a line that hasn't two."""
+    """The names of each line that has some; ValueError with the reason where a line hasn't two, or where none has."""
     pairs = []
     for number, line in enumerate(text.split("\n"), 1):
         names = [] if line.lstrip().startswith(("#", "%")) else [name for name in BETWEEN.split(line) if name]
         if names and len(names) != 2:
-            raise ValueError(number)
+            raise ValueError(f"line {number}: hasn't two names")
         pairs += [names] if names else []
+    if not pairs:
+        raise ValueError("no line has names")
     return pairs
 
 
@@ -43,8 +45,8 @@ def main(words: List[str]) -> int:
     try:
         text = open(words[0], encoding="utf-8", errors="replace").read() if words else sys.stdin.read()
         sys.stdout.write(list_of(pairs_of(text)))
-    except ValueError as line:
-        print(f"line {line}: hasn't two names", file=sys.stderr)
+    except ValueError as why:
+        print(why, file=sys.stderr)
         return BAD_INPUT
     except OSError as error:
         print(f"{error.filename}: {error.strerror}", file=sys.stderr)
