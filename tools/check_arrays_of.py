@@ -92,7 +92,7 @@ TABLES = [
     ('petersen,"{3, 2; 1, 1}"\n', 'petersen,"{3,2;1,1}"\n'),
     ('"K, with a comma",{3;1}\n', '"K, with a comma",{3;1}\n'),
     ('"srg(10,3,0,1)","{3,2;1,1}"\n', '"srg(10,3,0,1)","{3,2;1,1}"\n'),
-    ('"{3;1} in a name, of any length in a record","{ 3;1 }"\n', '"{3;1} in a name, of any length in a record",{3;1}\n'),
+    ('"{3;1} in a name, as long as you like","{ 3;1 }"\n', '"{3;1} in a name, as long as you like",{3;1}\n'),
     ("Johnson graph J(6,3) ({9,4,1;1,4,9})\n", '"Johnson graph J(6,3)","{9,4,1;1,4,9}"\n'),
     ("{4,1;1,4}\n", ',"{4,1;1,4}"\n'),
     ("{4,1;1,4} and {3;1}\n", ',"{4,1;1,4}"\n,{3;1}\n'),
