@@ -427,6 +427,7 @@ class Judge:
         self.theta: List[FieldNumber] = []
         self.p: List[List[FieldNumber]] = []
         self.q: List[List[FieldNumber]] = []
+        self.krein: Dict[Tuple[int, int], List[FieldNumber]] = {}  # by (i, j)
         self.equations: List[Equation] = []  # those made so far
         self.rooms: Optional[List[Room]] = None  # of the open branches
 
@@ -602,6 +603,21 @@ class Judge:
                         n = work(n + size)
                 if left != whole(n if i == j else 0):
                     return False
+        return True
+
+    def krein_met(self, numbers: List[int]) -> bool:
+        i, j = numbers[0], numbers[1]
+        values = read_field_numbers(self.root, numbers[2:])
+        d = self.array.d
+        if not self.spectral or values is None or len(self.q) != d + 1:
+            return False
+        if not 1 <= i <= j <= d or (i, j) in self.krein:
+            return False
+        for row in self.q:
+            left = row[i].times(self.root, row[j])
+            if left != dot(self.root, values, row):
+                return False
+        self.krein[i, j] = values
         return True
 
     # Triple intersection numbers.
@@ -844,6 +860,7 @@ LINE_RULES: Dict[str, Callable[[Judge, List[int]], bool]] = {
     "theta": Judge.theta_met,
     "prow": Judge.prow_met,
     "qrow": Judge.qrow_met,
+    "krein": Judge.krein_met,
     "eq": Judge.eq_met,
     "comb": Judge.comb_met,
     "low": Judge.low_met,

@@ -96,7 +96,7 @@ module _ (a : Entries) (array : IsArray a) (claim : Claim) (counts : CountConten
   d = diameter a
 
   abbrev content : List (List ℤ) → List (List ℤ) → List (List ℤ) → FrameContent
-  content ts ps qs = record { root = f.root; theta = ts; p = ps; q = qs }
+  content ts ps qs = record { root = f.root; theta = ts; p = ps; q = qs; krein = [] }
 
   abbrev known : List (List ℤ) → List (List ℤ) → List (List ℤ) → KnownContent
   known ts ps qs = record { array = a; claim = claim; counts = counts; frame = Some (content ts ps qs); rooms = None }

@@ -27,7 +27,7 @@ use Rattle.drg_replay.specs.Rows.{rows_at, balances_from}
 use Rattle.drg_replay.specs.Indices.{is_index}
 use Rattle.drg_replay.specs.Frames.{is_spectral, theta_steps, prow_steps, qrow_steps}
 use Rattle.drg_replay.proofs.FrameLaws.{counting_unframed, needs_frame}
-use Rattle.drg_replay.specs.Lines.{known_of, steps_of}
+use Rattle.drg_replay.specs.Lines.{known_of}
 use Rattle.drg_replay.specs.Roots.{IsSquarefreeRoot}
 use Rattle.drg_replay.specs.Answers.{AllAreMet, outcome, progress_of}
 use Rattle.drg_replay.proofs.Soundness.{above_zero}

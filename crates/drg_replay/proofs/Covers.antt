@@ -1,7 +1,7 @@
 -- The triple intersection numbers of a graph stay in an open branch, so lines that close every branch
 -- exclude every graph.
-use Rattle.std.proofs.Common.{◌≡◌, ℕ, zero, suc, ◌+◌, ◌-◌, ◌*◌, ◌<◌, ◌≤◌, Bool, true, false, List, [], ◌∷◌, ◌++◌, length, Ok, refl, sym, ap, ◌∙◌, subst, arith, inl, inr, Option, Some, None}
-use Rattle.std.specs.Prelude.{ℤ, pos, negsuc, unsigned_abs, ◌≤ℤ◌, ◌&&◌, not, nat_le, nat_lt, int_le, int_lt, map, slice_index_or, if◌then◌else◌, ⊤}
+use Rattle.std.proofs.Common.{◌≡◌, ℕ, zero, suc, ◌+◌, ◌*◌, ◌<◌, ◌≤◌, Bool, true, false, List, [], ◌∷◌, length, Ok, refl, sym, ap, ◌∙◌, subst, arith, inl, Option, Some, None}
+use Rattle.std.specs.Prelude.{ℤ, pos, negsuc, unsigned_abs, ◌≤ℤ◌, ◌&&◌, not, nat_le, nat_lt, int_le, int_lt, map, if◌then◌else◌, ⊤}
 use Rattle.std.specs.List.{range_with_len}
 use Rattle.std.proofs.lemmas.Int.{ints}
 use Rattle.std.proofs.lemmas.Bool.Decides.{nat_tests}
@@ -10,7 +10,7 @@ use Rattle.drg_array.specs.Entries.{Entries, IsArray, diameter}
 use Rattle.drg_array.specs.declared.claim.Claim.{Claim}
 use Rattle.drg_derivation.specs.declared.line.Line.{Line}
 use Rattle.drg_derivation.specs.declared.line.Line.TheVariants.{Eq, Comb, Low, High, Split, Miss, Mod, Void}
-use Rattle.drg_graph.specs.Graph.{Graph, IsDistanceRegular, NoGraph}
+use Rattle.drg_graph.specs.Graph.{Graph, IsDistanceRegular}
 use Rattle.drg_graph.specs.Numbers.{AreRows}
 use Rattle.drg_linear.specs.declared.triple.TripleType.{TripleType}
 use Rattle.drg_linear.specs.Equations.{Meets}
@@ -25,7 +25,6 @@ use Rattle.drg_rooms.specs.Lines as room_lines
 use Rattle.drg_rooms.specs.Laws.{InSome, IsKept}
 use Rattle.drg_rooms.proofs.Keeping.{keeps}
 use Rattle.drg_rooms.proofs.CombLaws.{meets_back}
-use Rattle.drg_replay.specs.Known.{KnownContent}
 use Rattle.drg_replay.specs.Steps.{EachHolds, first_failure}
 use Rattle.drg_replay.specs.Indices.{is_index}
 use Rattle.drg_replay.specs.Rows.{rows_at, entry}

@@ -9,7 +9,7 @@ use Rattle.drg_algebra.proofs.Tests.{both, decided, never}
 use Rattle.drg_array.proofs.EntryLemmas.{c-end}
 use Rattle.drg_array.specs.Entries.{Entries, IsArray, diameter, b_at, c_at}
 use Rattle.drg_derivation.specs.declared.line.Line.{Line}
-use Rattle.drg_derivation.specs.declared.line.Line.TheVariants.{K, Frame, Theta, Prow, Qrow}
+use Rattle.drg_derivation.specs.declared.line.Line.TheVariants.{K, Frame, Theta, Prow, Qrow, Krein}
 use Rattle.drg_array.specs.Claims.{class_of}
 use Rattle.drg_array.specs.declared.claim.Claim.{Claim}
 use Rattle.drg_array.specs.declared.claim.Class.TheVariants.{Counting, Spectral}
@@ -29,7 +29,8 @@ use Rattle.drg_replay.specs.Rows.{b_before}
 use Rattle.drg_replay.specs.Roots.{is_root}
 use Rattle.drg_replay.specs.FieldNumbers.{value_at, is_same_value}
 use Rattle.drg_replay.specs.Frames.{is_spectral, frame_steps, line_at, theta_at, p_at, q_at, is_next, descent_steps, theta_steps, coefficients, value_before, neighbours, recurrence_steps, recurrences_from, begins_row, prow_steps, row_values, column_values, diagonal, cell_steps, cells_from, product_rows, product_steps, is_last, qrow_steps, in_frame}
-use Rattle.drg_replay.specs.Lines.{with_theta, with_prow, with_qrow, frame_after, known_of, steps_of}
+use Rattle.drg_replay.specs.KreinLines.{with_krein}
+use Rattle.drg_replay.specs.Lines.{with_theta, with_prow, with_qrow, frame_after, known_of}
 use Rattle.drg_replay.specs.Answers.{AllAreMet}
 use Rattle.drg_replay.proofs.LineLaws.{rule_holds}
 use Rattle.drg_replay.proofs.StepLaws.{is_same, are_same}
@@ -46,7 +47,7 @@ pub value_over : (root : ℕ) (numbers : List ℤ) (j : ℕ) → IsOver root (va
 value_over zero numbers j e = refl
 value_over (suc n) numbers j e = absurd (omega arith)
 
-next_below : (a : Entries) (i : ℤ) (lines : List (List ℤ)) → is_next a i lines ≡ true → length lines ≤ diameter a
+pub next_below : (a : Entries) (i : ℤ) (lines : List (List ℤ)) → is_next a i lines ≡ true → length lines ≤ diameter a
 unfolding is_next
 next_below a i lines h =
     let parts = both (is_index 0 i (diameter a)) (nat_eq (unsigned_abs i) (length lines)) h in
@@ -102,7 +103,7 @@ zero_or zero h = refl
 zero_or (suc m) h = absurd (h (omega arith))
 
 -- a list of steps that all hold, in two parts
-first_part : (steps rest : List Step) → EachHolds (steps ++ rest) → EachHolds steps × EachHolds rest
+pub first_part : (steps rest : List Step) → EachHolds (steps ++ rest) → EachHolds steps × EachHolds rest
 first_part [] rest h = (tt, h)
 first_part (Holds b ∷ steps) rest h = let parts = first_part steps rest h.1 in ((h.0, parts.0), parts.1)
 first_part (Fits b ∷ steps) rest h = let parts = first_part steps rest h.1 in ((h.0, parts.0), parts.1)
@@ -191,7 +192,7 @@ pub record Framed (a : Entries) (n : ℤ) (f : FrameContent) : Type 0 where
   pub product : length f.q ≡ diameter a + 1 → (i j : ℕ) → i < diameter a + 1 → j < diameter a + 1
       → dot_of (value_operations f.root) (row_values f.root (line_at f.p i) 0 (diameter a + 1)) (column_values f.root f.q j 0 (diameter a + 1)) ≡ diagonal n i j
 
-begun : (a : Entries) (n root : ℤ) → is_root root ≡ true → Framed a n (record { root = unsigned_abs root; theta = []; p = []; q = [] })
+begun : (a : Entries) (n root : ℤ) → is_root root ≡ true → Framed a n (record { root = unsigned_abs root; theta = []; p = []; q = []; krein = [] })
 begun a n root h = record {
   root = root_is root h;
   descends = λ i less. absurd (omega arith);
@@ -287,6 +288,18 @@ module _ (a : Entries) (n : ℤ) (f : FrameContent) (framed : Framed a n f) wher
           row_at f.root (f.q ++ numbers ∷ []) (diameter a + 1) (vertex_count sizes) 0 f.p i i j steps.1 (omega (arith, rows, hi)) (omega arith) hj
           ∙ ap (λ z. diagonal z i j) sum
 
+  -- a `krein` line leaves the frame as it is
+  with_krein_framed : (i j : ℕ) (numbers : List ℤ) → Framed a n (with_krein f i j numbers)
+  with_krein_framed i j numbers = record {
+    root = framed.root;
+    descends = framed.descends;
+    few = framed.few;
+    whole_theta = framed.whole_theta;
+    rows = framed.rows;
+    whole_p = framed.whole_p;
+    product = framed.product;
+  }
+
 -- ---- the frame that is known
 -- where a frame is known, all sizes stand, the claim is spectral, and the lines hold what they ask
 pub IfFramed : Entries → Claim → Option (List ℤ) → Option FrameContent → Type 0
@@ -321,6 +334,11 @@ unfolding IfFramed
 qrow_framed a claim sizes None r numbers h k = tt
 qrow_framed a claim sizes (Some f) r numbers h k = (k.0, k.1, with_qrow_framed a (vertex_count sizes) f k.2 sizes refl r numbers h)
 
+krein_framed : (a : Entries) (claim : Claim) (sizes : Option (List ℤ)) (frame : Option FrameContent) (i j : ℤ) (numbers : List ℤ) → IfFramed a claim sizes frame → IfFramed a claim sizes (frame_after (Krein i j numbers) frame)
+unfolding IfFramed
+krein_framed a claim sizes None i j numbers k = tt
+krein_framed a claim sizes (Some f) i j numbers k = (k.0, k.1, with_krein_framed a (vertex_count sizes) f k.2 (unsigned_abs i) (unsigned_abs j) numbers)
+
 begun_framed : (k : KnownContent) (root : ℤ) → EachHolds (frame_steps k root) → IfFramed k.array k.claim k.counts.sizes (frame_after (Frame root) k.frame)
 unfolding IfFramed
 begun_framed k root h = (h.1.0, h.1.1.0, begun k.array (vertex_count k.counts.sizes) root h.1.1.1.0)
@@ -347,6 +365,9 @@ frame_known a claim array (Prow i numbers ∷ earlier) met =
 frame_known a claim array (Qrow r numbers ∷ earlier) met =
     let k = known_of a claim earlier in
     qrow_framed k.array k.claim k.counts.sizes k.frame r numbers (rule_holds k (Qrow r numbers) met.1) (frame_known a claim array earlier met.0)
+frame_known a claim array (Krein i j numbers ∷ earlier) met =
+    let k = known_of a claim earlier in
+    krein_framed k.array k.claim k.counts.sizes k.frame i j numbers (frame_known a claim array earlier met.0)
 frame_known a claim array (_ ∷ earlier) met = frame_known a claim array earlier met.0
 
 -- ---- a whole frame

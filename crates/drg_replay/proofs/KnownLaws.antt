@@ -19,10 +19,10 @@ use Rattle.drg_replay.proofs.StepLaws.{at_most, not_at_most}
 use Rattle.drg_replay.proofs.RowLaws.{front, end, length_more, set_at, no_rows_at, two_cases}
 
 -- a line that stands among the earlier ones
-later : (lines : List Line) (newest line : Line) → Contains lines line → Contains (newest ∷ lines) line
+pub later : (lines : List Line) (newest line : Line) → Contains lines line → Contains (newest ∷ lines) line
 later lines newest line h = let less = h.1 in (suc h.0, omega arith, h.2)
 
-newest : (lines : List Line) (line : Line) → Contains (line ∷ lines) line
+pub newest : (lines : List Line) (line : Line) → Contains (line ∷ lines) line
 newest lines line = (0, omega arith, refl)
 
 -- ---- the `k` line
@@ -74,7 +74,7 @@ set_here (r ∷ rows) zero new less = refl
 set_here (r ∷ rows) (suc h) new less = set_here rows h new (omega arith)
 
 -- an index that is in its range
-index_is : (least limit : ℕ) (n : ℤ) → is_index least n limit ≡ true → n ≡ pos (unsigned_abs n)
+pub index_is : (least limit : ℕ) (n : ℤ) → is_index least n limit ≡ true → n ≡ pos (unsigned_abs n)
 index_is least limit (pos n) h = refl
 index_is least limit (negsuc n) h = cc
 

@@ -14,6 +14,13 @@ pub mod ValueLaws
 pub mod CountLaws
 pub mod SumLaws
 pub mod FrameLaws
+pub mod KreinSteps
+pub mod KreinSigns
+pub mod KreinHalves
+pub mod KreinSums
+pub mod KreinBounds
+pub mod KreinLaws
+pub mod KreinKnown
 pub mod RationalRootLaws
 pub mod Soundness
 pub mod Covers

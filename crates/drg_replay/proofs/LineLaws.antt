@@ -1,18 +1,16 @@
 -- What a met line has passed.
 use Rattle.std.proofs.Common.{◌≡◌, ℕ, Bool, true, false, List, [], ◌∷◌, Ok, Err, refl, subst}
-use Rattle.std.specs.Prelude.{ℤ, unsigned_abs, not, if◌then◌else◌, Option, Some}
+use Rattle.std.specs.Prelude.{ℤ, unsigned_abs, if◌then◌else◌, Option, Some}
 use Rattle.drg_array.specs.Entries.{diameter}
 use Rattle.drg_derivation.specs.declared.line.Line.{Line}
 use Rattle.drg_derivation.specs.declared.line.Line.TheVariants.{Eq}
 use Rattle.drg_linear.specs.declared.triple.TripleType.{TripleType}
 use Rattle.drg_replay.specs.declared.refusal.Fault.{Fault}
 use Rattle.drg_replay.specs.declared.refusal.Fault.TheVariants.{Refused, Memory}
-use Rattle.drg_replay.specs.declared.refusal.Refusal.{Refusal}
 use Rattle.drg_replay.specs.declared.refusal.Refusal.TheVariants.{NotMet}
 use Rattle.drg_replay.specs.Indices.{is_index}
 use Rattle.drg_replay.specs.Known.{KnownContent}
 use Rattle.drg_replay.specs.Steps.{Step, Holds, EachHolds, first_failure}
-use Rattle.drg_replay.specs.Rooms.{are_closed}
 use Rattle.drg_replay.specs.Lines.{steps_of, asked_of}
 use Rattle.drg_replay.specs.Systems.{type_of, equation_of, for_type, eq_steps}
 use Rattle.drg_replay.specs.Answers.{outcome, Makes, FollowsRule}

@@ -24,7 +24,7 @@ use Rattle.drg_replay.specs.Sizes.{size_at, values_of}
 use Rattle.drg_replay.specs.Rows.{rows_at, entry}
 use Rattle.drg_replay.specs.Rooms.{are_closed}
 use Rattle.drg_replay.specs.Indices.{is_index}
-use Rattle.drg_replay.specs.Lines.{known_of, steps_of}
+use Rattle.drg_replay.specs.Lines.{known_of}
 use Rattle.drg_replay.specs.Claims.{claim_is_met, is_distance, closing_of, closing_steps, size_closing, intersect_closing, handshake_closing, induced_closing, triangles_closing, mult_closing}
 use Rattle.drg_replay.specs.Answers.{AllAreMet, progress_of, accepted_class}
 use Rattle.drg_replay.specs.Laws.{ClassLaw}
@@ -175,7 +175,7 @@ counting_unframed false e = refl
 -- ---- the answer
 
 -- the claim in force lies in the range of its test
-met_in_force : (a : Entries) (c : Claim) (lines : List Line) → claim_is_met a c ≡ true → claim_is_met (known_of a c lines).array (known_of a c lines).claim ≡ true
+pub met_in_force : (a : Entries) (c : Claim) (lines : List Line) → claim_is_met a c ≡ true → claim_is_met (known_of a c lines).array (known_of a c lines).claim ≡ true
 met_in_force a c lines h = rw (array_stays a c lines, claim_stays a c lines) h
 
 pub excludes : ClosedRoomsLaw → Laws → GraphLaw

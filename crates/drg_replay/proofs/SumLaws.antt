@@ -13,10 +13,10 @@ products_of_places o f g a zero = refl
 products_of_places o f g a (suc n) = ap (λ xs. o.times (f a) (g a) ∷ xs) (products_of_places o f g (a + 1) n)
 
 module _ {V : Type 0} (o : Operations V) (r : IsRing o.nil o.unit o.plus o.times o.minus) where
-  abbrev ring : CommutativeRing
+  abbrev pub ring : CommutativeRing
   ring = record { Of = V; nil = o.nil; unit = o.unit; plus = o.plus; times = o.times; minus = o.minus; laws = r }
 
-  sum_of_list : (xs : List V) → sum_of o xs ≡ list_sum ring xs
+  pub sum_of_list : (xs : List V) → sum_of o xs ≡ list_sum ring xs
   sum_of_list [] = refl
   sum_of_list (x ∷ xs) = (list_sum_laws_hold ring).left x xs
 

@@ -1,5 +1,5 @@
 -- A claim without a type of triples has no rooms, and none of their lines is met for it.
-use Rattle.std.proofs.Common.{◌≡◌, ℕ, List, [], ◌∷◌, Ok, Err, refl, sym, ap, ◌∙◌, subst, Option, Some, None}
+use Rattle.std.proofs.Common.{◌≡◌, ℕ, List, [], ◌∷◌, Ok, refl, ap, ◌∙◌, Option, Some, None}
 use Rattle.std.specs.Prelude.{ℤ}
 use Rattle.drg_array.specs.Entries.{Entries, diameter}
 use Rattle.drg_array.specs.declared.claim.Claim.{Claim}
@@ -7,7 +7,6 @@ use Rattle.drg_derivation.specs.declared.line.Line.{Line}
 use Rattle.drg_derivation.specs.declared.line.Line.TheVariants.{Eq, Comb, Low, High, Split, Miss, Mod, Void}
 use Rattle.drg_linear.specs.declared.triple.TripleType.{TripleType}
 use Rattle.drg_rooms.specs.Content.{BranchesContent}
-use Rattle.drg_replay.specs.Known.{KnownContent}
 use Rattle.drg_replay.specs.Steps.{Step, first_failure}
 use Rattle.drg_replay.specs.Rooms.{room_steps, room_after}
 use Rattle.drg_replay.specs.Systems.{type_of, for_type}

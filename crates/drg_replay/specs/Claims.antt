@@ -3,12 +3,13 @@
 use Rattle.std.specs.Prelude.{ℕ, suc, ◌+◌, ◌-◌, nat_eq, nat_lt, nat_le, ℤ, pos, int_lt, ◌*ℤ◌, Bool, true, false, ◌&&◌, ◌||◌, not, List, [], ◌∷◌, length, Option}
 use Rattle.drg_array.specs.Entries.{Entries, diameter, b_at, c_at, a_at}
 use Rattle.drg_array.specs.declared.claim.Claim.{Claim}
-use Rattle.drg_array.specs.declared.claim.Claim.TheVariants.{First, Degree, Order, Cross, Size, Intersect, Handshake, Induced, Triangles, Mult, Triple}
+use Rattle.drg_array.specs.declared.claim.Claim.TheVariants.{First, Degree, Order, Cross, Size, Intersect, Handshake, Induced, Triangles, Mult, Krein, Absolute, Triple}
 use Rattle.drg_replay.specs.Known.{KnownContent, FrameContent}
 use Rattle.std.specs.Ordering.{int_eq}
 use Rattle.drg_algebra.specs.Reduced.{numerator, denominator}
 use Rattle.drg_quadratic.specs.Values.{Value}
 use Rattle.drg_replay.specs.Frames.{q_at, all_stand, in_frame}
+use Rattle.drg_replay.specs.KreinClaims.{krein_closing, absolute_closing}
 use Rattle.drg_replay.specs.Rooms.{are_closed}
 use Rattle.drg_replay.specs.Steps.{Step, Holds, Fits, not_built}
 use Rattle.drg_whole.specs.Range.{in_range}
@@ -106,6 +107,8 @@ closing_of k (Handshake i) = handshake_closing k.array k.counts.sizes i
 closing_of k (Induced i j) = induced_closing k.array k.counts.sizes (rows_at k.counts.rows i) i j
 closing_of k (Triangles i) = triangles_closing k.array k.counts.sizes (rows_at k.counts.rows i) i
 closing_of k (Mult i) = mult_closing k.array k.frame i
+closing_of k (Krein i j h) = krein_closing k.frame i j h
+closing_of k (Absolute i j) = absolute_closing k.array k.frame i j
 closing_of k (Triple u v w) = Holds (are_closed k.rooms) ∷ []
 closing_of k _ = not_built
 

@@ -11,6 +11,12 @@ pub record CountContent : Type 0 where
   -- for each upper index from 0 on, its rows from row 1 on
   pub rows : List (List (List ℤ))
 
+-- what a `krein` line states: its indices i and j, and its numbers after them
+pub record KreinContent : Type 0 where
+  pub i : ℕ
+  pub j : ℕ
+  pub numbers : List ℤ
+
 -- what the `frame` line and those that need it state
 pub record FrameContent : Type 0 where
   -- the number whose square root the field numbers are made with, 0 for none
@@ -19,6 +25,8 @@ pub record FrameContent : Type 0 where
   pub theta : List (List ℤ)
   pub p : List (List ℤ)
   pub q : List (List ℤ)
+  -- what the `krein` lines state, from the first one on
+  pub krein : List KreinContent
 
 pub record KnownContent : Type 0 where
   -- the array and the claim in force

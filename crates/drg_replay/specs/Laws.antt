@@ -1,5 +1,5 @@
 -- Laws of the answer, and of what lines make known.
-use Rattle.std.specs.Prelude.{◌≡◌, ◌↔◌, true, ℕ, suc, ◌+◌, ◌<◌, ℤ, pos, List, [], ◌++◌, length, slice_index_or, All, Contains, Some, Result, Ok, Err}
+use Rattle.std.specs.Prelude.{◌≡◌, ◌↔◌, true, ℕ, suc, ◌+◌, ◌<◌, ℤ, pos, List, [], ◌++◌, length, slice_index_or, All, Contains, Option, Some, None, Result, Ok, Err}
 use Rattle.drg_array.specs.Entries.{Entries}
 use Rattle.drg_array.specs.Claims.{name_of}
 use Rattle.drg_array.specs.declared.claim_name.TheConstants.{REPLAYED}
@@ -7,11 +7,12 @@ use Rattle.drg_array.specs.declared.claim.Claim.{Claim}
 use Rattle.drg_array.specs.declared.claim.Class.{Class}
 use Rattle.drg_derivation.specs.Content.{Content}
 use Rattle.drg_derivation.specs.declared.line.Line.{Line}
-use Rattle.drg_derivation.specs.declared.line.Line.TheVariants.{K, P}
+use Rattle.drg_derivation.specs.declared.line.Line.TheVariants.{K, P, Krein}
 use Rattle.drg_replay.specs.declared.progress.Progress.TheVariants.{AllMet}
 use Rattle.drg_replay.specs.declared.answer.ReplayFault.{ReplayFault}
 use Rattle.drg_replay.specs.declared.answer.ReplayFault.TheVariants.{NotMet, Open, Wide, Memory}
-use Rattle.drg_replay.specs.Known.{KnownContent}
+use Rattle.drg_replay.specs.Known.{KnownContent, FrameContent}
+use Rattle.drg_replay.specs.KreinLines.{krein_stands, krein_numbers}
 use Rattle.drg_replay.specs.Rows.{rows_at}
 use Rattle.drg_replay.specs.Claims.{claim_is_met}
 use Rattle.drg_replay.specs.Lines.{known_of, known_at_end}
@@ -71,3 +72,17 @@ KnownRowsLaw =
     → AllAreMet a claim lines
     → IsRow (rows_at (known_of a claim lines).counts.rows h) i values
     ↔ Contains lines (P (pos h) (pos (suc i)) values)
+
+-- the numbers that are known of i and j
+abbrev pub StatesKrein : Option FrameContent → ℕ → ℕ → List ℤ → Type 0
+StatesKrein None i j values = ⊥
+StatesKrein (Some f) i j values =
+    (krein_stands f.krein i j ≡ true) × (krein_numbers f.krein i j ≡ values)
+
+-- are those of their `krein` line
+abbrev pub KnownKreinLaw : Type 0
+KnownKreinLaw =
+    (a : Entries) (claim : Claim) (lines : List Line) (i j : ℕ) (values : List ℤ)
+    → AllAreMet a claim lines
+    → StatesKrein (known_of a claim lines).frame i j values
+    ↔ Contains lines (Krein (pos i) (pos j) values)

@@ -5,6 +5,8 @@ pub mod Frames
 pub mod HasJudged
 pub mod Indices
 pub mod Known
+pub mod KreinClaims
+pub mod KreinLines
 pub mod Laws
 pub mod Lines
 pub mod RationalRoots

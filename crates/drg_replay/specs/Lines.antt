@@ -4,13 +4,14 @@ use Rattle.drg_array.specs.Entries.{Entries, diameter}
 use Rattle.drg_array.specs.declared.claim.Claim.{Claim}
 use Rattle.drg_derivation.specs.Content.{Content}
 use Rattle.drg_derivation.specs.declared.line.Line.{Line}
-use Rattle.drg_derivation.specs.declared.line.Line.TheVariants.{K, P, Frame, Theta, Prow, Qrow, Eq, Comb, Low, High, Split, Miss, Mod, Void}
+use Rattle.drg_derivation.specs.declared.line.Line.TheVariants.{K, P, Frame, Theta, Prow, Qrow, Krein, Eq, Comb, Low, High, Split, Miss, Mod, Void}
 use Rattle.drg_linear.specs.declared.triple.TripleType.{TripleType}
 use Rattle.drg_rooms.specs.Content.{BranchesContent}
 use Rattle.drg_replay.specs.Known.{KnownContent, CountContent, FrameContent}
 use Rattle.drg_replay.specs.Steps.{Step, Holds, not_built}
 use Rattle.drg_replay.specs.Indices.{is_index}
 use Rattle.drg_replay.specs.Frames.{frame_steps, theta_steps, prow_steps, qrow_steps, in_frame}
+use Rattle.drg_replay.specs.KreinLines.{with_krein, krein_steps}
 use Rattle.drg_replay.specs.Sizes.{size_steps}
 use Rattle.drg_replay.specs.Rows.{rows_at, row_steps}
 use Rattle.drg_replay.specs.Systems.{type_of, system_at_start, system_of, with_equation, equation_of, for_type, eq_steps}
@@ -42,10 +43,12 @@ counts_after _ counts = counts
 
 abbrev pub frame_after : Line → Option FrameContent → Option FrameContent
 frame_after (Frame root) frame =
-    Some (record { root = unsigned_abs root; theta = []; p = []; q = [] })
+    Some (record { root = unsigned_abs root; theta = []; p = []; q = []; krein = [] })
 frame_after (Theta i numbers) (Some f) = Some (with_theta f numbers)
 frame_after (Prow i numbers) (Some f) = Some (with_prow f numbers)
 frame_after (Qrow r numbers) (Some f) = Some (with_qrow f numbers)
+frame_after (Krein i j numbers) (Some f) =
+    Some (with_krein f (unsigned_abs i) (unsigned_abs j) numbers)
 frame_after _ frame = frame
 
 -- the first equation of a type opens its system
@@ -109,6 +112,7 @@ steps_of k (Theta i numbers) = in_frame k.frame (λ f. theta_steps k.array f i n
 steps_of k (Prow i numbers) = in_frame k.frame (λ f. prow_steps k.array f i numbers)
 steps_of k (Qrow r numbers) =
     in_frame k.frame (λ f. qrow_steps k.array k.counts.sizes f r numbers)
+steps_of k (Krein i j numbers) = in_frame k.frame (λ f. krein_steps k.array f i j numbers)
 steps_of k (Eq n x y) = for_type (type_of k.claim) (λ ty. eq_steps k.array k.counts.rows ty n x y)
 steps_of k (Comb m values) = room_steps k.rooms (Comb m values)
 steps_of k (Low r s t v n) = room_steps k.rooms (Low r s t v n)

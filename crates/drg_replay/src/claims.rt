@@ -9,6 +9,7 @@ use crate::entries::times_entry;
 use crate::field_number::value_at;
 use crate::frame::{Frame, all_stand};
 use crate::known::Known;
+use crate::krein_claims::{check_absolute, check_krein_claim};
 use crate::parity::{check_handshake, check_induced, check_triangles, divides};
 use crate::refusal::{Refusal, met_where, not_built};
 use crate::rows::{balance_sum, row_stands};
@@ -138,6 +139,13 @@ pub fn check_closing(known: &Known) -> Result<(), Refusal>
             check_triangles(array, counts.sizes(), counts.rows_at(i), i)
         }
         Claim::Mult { i } => check_mult(array, known.frame(), usize::from(i)),
+        Claim::Krein { i, j, h } => {
+            let (i, j, h) = (usize::from(i), usize::from(j), usize::from(h));
+            check_krein_claim(known.frame(), i, j, h)
+        }
+        Claim::Absolute { i, j } => {
+            check_absolute(array, known.frame(), usize::from(i), usize::from(j))
+        }
         Claim::Triple { .. } => met_where(known.is_closed()),
         _ => not_built(),
     }

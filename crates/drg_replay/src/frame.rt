@@ -1,6 +1,7 @@
 //! What the `frame` line and those that need it state.
 ghost use Rattle.std.specs.Prelude.{◌≡◌, ◌++◌, ◌∷◌, [], ◌≤◌, length, true, IsTrue, unsigned_abs, OnOk, OnErr};
 ghost use Rattle.drg_replay.specs.Frames.{frame_steps, is_next as the_is_next, all_stand as the_all_stand, theta_steps, prow_steps, qrow_steps};
+ghost use Rattle.drg_replay.specs.KreinLines.{krein_content, krein_steps, with_krein};
 ghost use Rattle.drg_replay.specs.Lines.{with_theta, with_prow, with_qrow};
 ghost use Rattle.drg_array.specs.Entries.{diameter};
 ghost use Rattle.drg_quadratic.specs.Values.{IsRoot};
@@ -11,6 +12,7 @@ ghost use Rattle.drg_replay.specs.Answers.{Takes};
 use crate::eigenmatrix::{check_prow, check_theta};
 use crate::index::index;
 use crate::known::{Known, copied};
+use crate::krein_lines::{KreinLine, check_krein};
 use crate::orthogonality::check_qrow;
 use crate::refusal::{Fault, Refusal, met_where};
 use crate::root::is_root;
@@ -20,13 +22,14 @@ use drg_derivation::NumberList;
 use std::alloc::{AllocError, Global};
 use std::marker::Model;
 
-/// The field of a frame, and the numbers of the lines `theta`, `prow` and `qrow`.
+/// The field of a frame, and the numbers of the lines `theta`, `prow`, `qrow` and `krein`.
 #[derive(Debug, Drop)]
 pub struct Frame {
     root: u32,
     theta: Vec<NumberList>,
     p: Vec<NumberList>,
     q: Vec<NumberList>,
+    krein: Vec<KreinLine>,
 }
 
 impl Model for Frame {
@@ -36,7 +39,7 @@ impl Model for Frame {
 
     ghost Value = { FrameContent };
 
-    ghost view = { λ f. record { root = f.root; theta = f.theta.items; p = f.p.items; q = f.q.items } };
+    ghost view = { λ f. record { root = f.root; theta = f.theta.items; p = f.p.items; q = f.q.items; krein = f.krein.items } };
 
     ghost invariant = { λ f. IsRoot f.root };
 }
@@ -50,18 +53,34 @@ fn keep(alloc: Global, lines: &mut Vec<NumberList>, numbers: &NumberList) -> Res
     Ok(())
 }
 
+/// The same for a line of i and j.
+fn keep_krein(
+    alloc: Global,
+    lines: &mut Vec<KreinLine>,
+    i: usize,
+    j: usize,
+    numbers: &NumberList,
+) -> Result<(), AllocError>
+    ensures ok { OnOk result (lines.new.items ≡ lines.old.items ++ krein_content i j numbers.now ∷ []) }
+    ensures err { OnErr result (lines.new.items ≡ lines.old.items) }
+{
+    lines.push(KreinLine::new(i, j, copied(alloc, numbers)?))?;
+    Ok(())
+}
+
 impl Frame {
     /// After the `frame` line alone.
     #[tactic(auto, using(crate::proofs::RootLaws::root_is))]
     pub fn new(alloc: Global, root: i128) -> Frame
         requires { the_is_root root ≡ true }
-        ensures { result ≡ record { root = unsigned_abs root; theta = []; p = []; q = [] } }
+        ensures { result ≡ record { root = unsigned_abs root; theta = []; p = []; q = []; krein = [] } }
     {
         Frame {
             root: root as u32,
             theta: Vec::new(alloc),
             p: Vec::new(alloc),
             q: Vec::new(alloc),
+            krein: Vec::new(alloc),
         }
     }
 
@@ -92,6 +111,13 @@ impl Frame {
         ensures { result.now ≡ self.now.q }
     {
         &self.q
+    }
+
+    /// What the `krein` lines state.
+    pub fn krein(&self) -> &[KreinLine]
+        ensures { result.now ≡ self.now.krein }
+    {
+        &self.krein
     }
 
     /// Takes a `theta` line.
@@ -140,6 +166,26 @@ impl Frame {
     {
         check_qrow(array, sizes, self, r, values)?;
         keep(alloc, &mut self.q, values)?;
+        Ok(())
+    }
+
+    /// Takes a `krein` line.
+    pub fn take_krein(
+        &mut self,
+        alloc: Global,
+        array: &Array,
+        i: i128,
+        j: i128,
+        values: &NumberList,
+    ) -> Result<(), Fault>
+        ensures { Takes result (krein_steps array.now self.old i j values.now)
+            self.old (with_krein self.old (unsigned_abs i) (unsigned_abs j) values.now) self.new }
+    {
+        let d = array.d();
+        let i = index(1, i, d)?;
+        let j = index(i, j, d)?;
+        check_krein(array, self, i, j, values.as_slice())?;
+        keep_krein(alloc, &mut self.krein, i, j, values)?;
         Ok(())
     }
 }

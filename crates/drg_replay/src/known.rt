@@ -7,7 +7,7 @@ ghost use Rattle.drg_replay.specs.Rooms.{are_closed, room_steps, room_after};
 ghost use Rattle.drg_replay.specs.Systems.{system_of, system_at_start, with_equation};
 ghost use Rattle.drg_replay.specs.Claims.{claim_is_met as the_claim_is_met};
 ghost use Rattle.drg_replay.specs.Lines.{known_at_start};
-ghost use Rattle.drg_derivation.specs.declared.line.Line.TheVariants.{K, P, Frame as FrameLine, Theta, Prow, Qrow, Eq as EqLine};
+ghost use Rattle.drg_derivation.specs.declared.line.Line.TheVariants.{K, P, Frame as FrameLine, Theta, Prow, Qrow, Krein, Eq as EqLine};
 
 use crate::counts::Counts;
 use crate::equations::equation_of_line;
@@ -190,6 +190,16 @@ impl Known {
         }
     }
 
+    /// Takes a `krein` line.
+    fn take_krein(&mut self, i: i128, j: i128, values: &NumberList) -> Result<(), Fault>
+        ensures { FollowsRule result (Krein i j values.now) self.old self.new }
+    {
+        match &mut self.frame {
+            Some(frame) => frame.take_krein(self.alloc, &self.array, i, j, values),
+            None => Err(Fault::Refused(Refusal::NotMet)),
+        }
+    }
+
     /// Appends an equation, the first of which opens the system of the type.
     fn keep_equation(&mut self, ty: TripleType, equation: Equation) -> Result<(), AllocError>
         ensures ok { OnOk result (self.new ≡ record self.old {
@@ -259,6 +269,7 @@ impl Known {
             Line::Theta { i, values } => self.take_theta(*i, values),
             Line::Prow { i, values } => self.take_prow(*i, values),
             Line::Qrow { r, values } => self.take_qrow(*r, values),
+            Line::Krein { i, j, values } => self.take_krein(*i, *j, values),
             _ => {
                 not_built()?;
                 Ok(())

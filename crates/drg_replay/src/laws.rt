@@ -1,7 +1,7 @@
 //! The laws of the answer and of met lines.
 ghost use Rattle.drg_replay.specs.RationalRoots.{RationalRootLaw};
 ghost use Rattle.drg_replay.specs.Roots.{RootLaw};
-ghost use Rattle.drg_replay.specs.Laws.{ClassLaw, KnownAloneLaw, KnownRowsLaw, KnownSizesLaw, ReplayedLaw};
+ghost use Rattle.drg_replay.specs.Laws.{ClassLaw, KnownAloneLaw, KnownKreinLaw, KnownRowsLaw, KnownSizesLaw, ReplayedLaw};
 ghost use Rattle.drg_replay.specs.Spectral.{SpectralLaw};
 ghost use Rattle.drg_replay.specs.Soundness.{ClosedRoomsLaw, GraphLaw, MetRowsLaw, MetSizesLaw};
 
@@ -71,6 +71,11 @@ pub fn met_rows_law()
 {
     rows_law();
 }
+
+/// The Krein parameters that are known of two indices are the numbers of their `krein` line.
+pub fn known_krein_law()
+    ensures { KnownKreinLaw }
+{}
 
 /// The root of a met `frame` line is 0, or squarefree above 1 and below 2^32, and each such number
 /// is taken.

@@ -10,9 +10,8 @@
 //! before them alone (specs/Laws.antt).
 //!
 //! The rules that are built are those of the claims first, degree, order, cross, size, intersect,
-//! handshake, induced, triangles, mult and triple, and of the lines `k`, `p`, `frame`, `theta`,
-//! `prow`, `qrow`, `eq`, `comb`, `low`, `high`, `split`, `miss`, `mod` and `void`. No other claim or
-//! line is met yet.
+//! handshake, induced, triangles, mult and triple, and of all lines but `keq`. No other claim or line
+//! is met yet.
 #![tactic(auto)]
 
 mod answer;
@@ -26,6 +25,8 @@ mod frame;
 mod index;
 mod judge;
 mod known;
+mod krein_claims;
+mod krein_lines;
 mod laws;
 mod orthogonality;
 mod parity;
@@ -39,12 +40,14 @@ mod systems;
 pub use answer::ReplayFault;
 pub use judge::replay;
 pub use laws::{
-    closed_rooms_law, graph_law, known_alone_law, met_rows_law, met_sizes_law, rational_root_law,
-    replayed_law, root_law, spectral_law,
+    closed_rooms_law, graph_law, known_alone_law, known_krein_law, met_rows_law, met_sizes_law,
+    rational_root_law, replayed_law, root_law, spectral_law,
 };
 
 #[cfg(test)]
 mod frame_tests;
+#[cfg(test)]
+mod krein_tests;
 #[cfg(test)]
 mod room_tests;
 #[cfg(test)]

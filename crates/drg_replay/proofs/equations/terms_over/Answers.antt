@@ -1,4 +1,3 @@
-use Rattle.std.proofs.Common.{◌≡◌}
 use Rattle.drg_replay.proofs.EquationLaws.{terms_more}
 use Rattle.drg_replay.proofs.equations.terms_over.Goals as goal
 
