@@ -4,11 +4,13 @@
 Usage: python3 tools/check_examples.py
 
 - Each array of examples/graphs has the verdict that the table of examples/README.md gives, with its
-  array and its number of vertices; the sizes follow from the array, and tools/spectrum.py works out the
-  eigenvalues and matrices, or the certificate. Each file has a row, and each row a file.
+  array and its number of vertices, and the orderings of the table below it; the sizes follow from the
+  array, and tools/spectrum.py works out the eigenvalues and matrices, or the certificate. Each file has a
+  row of both tables, and each row a file. Where no test is selected, each is a survivor.
 - Each of the ten arrays of examples/fails fails the test of its name first: the report is the file of
   that name in examples/derivations and the verdict on its claim. The report is the same where that test
-  is the only one selected. Where it is one that can be selected and none is, the array is a survivor.
+  is the only one selected. Where it is one that can be selected and none is, the array is a survivor, and
+  tools/orderings.py works out its orderings.
 - Each derivation, and each such report, is accepted by `drg replay` and by tools/replay.py.
 - Each derivation of examples/spectral and of examples/triples is accepted by both, with the claim of its
   row in examples/README.md.
@@ -40,6 +42,7 @@ from typing import NamedTuple
 from check_tables import TESTS as TABLE_TESTS
 from check_tables import rows_of_page
 from make_edges import made
+from orderings import ordering_lines
 from spectrum import spectrum_lines
 
 TOP = Path(__file__).resolve().parent.parent
@@ -58,6 +61,7 @@ COPIES = {"petersen": "graphs", "degree": "fails"}
 ROW = re.compile(
     r"\| [^|]+ \| `(?P<file>\w+)` \| `(?P<array>\{[\d,;]+\})` \| (?P<n>\d+) \| (?P<verdict>[a-z-]+) \|"
 )
+ORDERINGS_ROW = re.compile(r"\| `(?P<file>\w+)` \| (?P<orderings>`[\d ]+`(?:, `[\d ]+`)*) \|")
 REFUSED_ROW = re.compile(r"\| `(?P<file>\w+)` \| `(?P<answer>(?:rejected|undecided|bad input,)[^`]+)` \|")
 ACCEPTED_ROW = re.compile(r"\| `\{[\d,;]+\}` \| `(?P<file>\w+)` \| `(?P<answer>accepted [^`]+ (?P<kind>\w+))` \|")
 # The folders of derivations made without the program, and their class.
@@ -195,9 +199,9 @@ def sizes(array):
     return k
 
 
-def survivor(array, n, k, passed, frame=()):
+def survivor(array, n, k, passed, further):
     lines = ["verdict survivor", f"array {array}", "passed " + " ".join(passed), f"n {n}"]
-    return writes([*lines, "sizes " + " ".join(map(str, k)), *frame], SURVIVOR)
+    return writes([*lines, "sizes " + " ".join(map(str, k)), *further], SURVIVOR)
 
 
 def refused_spectrum(array, passed, certificate):
@@ -211,16 +215,22 @@ def class_of(test):
 
 def graph_cases():
     """The arrays of graphs, against the table."""
-    rows = {row["file"]: row for row in ROW.finditer((EXAMPLES / "README.md").read_text(encoding="utf-8"))}
-    same = rows.keys() == names_in("graphs")
-    yield is_true("examples/README.md: its table has each file of examples/graphs and no other", same)
+    page = (EXAMPLES / "README.md").read_text(encoding="utf-8")
+    rows = {row["file"]: row for row in ROW.finditer(page)}
+    orderings = {row["file"]: row["orderings"] for row in ORDERINGS_ROW.finditer(page)}
+    same = rows.keys() == orderings.keys() == names_in("graphs")
+    yield is_true("examples/README.md: its tables have each file of examples/graphs and no other", same)
     for file, row in sorted(rows.items()):
         array, k = row["array"], sizes(row["array"])
         name = f"examples/graphs/{file}.txt"
         yield is_true(f"{name}: is the array of the table", content(f"graphs/{file}") == array + "\n")
         yield is_true(f"examples/README.md: n of {file} is the sum of its sizes", int(row["n"]) == sum(k))
         lines, multiplicities = spectrum_lines(array)
-        wanted = survivor(array, row["n"], k, TESTS, lines)
+        ppoly = [f"ppoly {order}" for order in orderings[file].strip("`").split("`, `")]
+        yield is_true(f"examples/README.md: the orderings of {file}", ppoly == ordering_lines(array))
+        wanted = survivor(array, row["n"], k, ALWAYS_RUN, ppoly)
+        yield holds(f"drg check --tests none {name}", wanted, drg("check", "--tests", "none", name))
+        wanted = survivor(array, row["n"], k, TESTS, lines + ppoly)
         if multiplicities is None:
             wanted = refused_spectrum(array, TESTS[:-1], lines)
         verdict = wanted.out.decode().split("\n", 1)[0].removeprefix("verdict ")
@@ -243,7 +253,7 @@ def failing_cases():
             yield holds(f"drg check --tests {test} {name}", wanted, drg("check", "--tests", test, name))
             array = content(f"fails/{test}").strip()
             k = sizes(array)
-            wanted = survivor(array, sum(k), k, ALWAYS_RUN)
+            wanted = survivor(array, sum(k), k, ALWAYS_RUN, ordering_lines(array))
         yield holds(f"drg check --tests none {name}", wanted, drg("check", "--tests", "none", name))
 
 

@@ -1,6 +1,6 @@
 -- When a verdict is right, and what a right verdict decides.
 use Rattle.std.proofs.Common.{◌≡◌, ◌≤◌, List, [], ◌∷◌, ◌++◌, Ok, None, Some, refl, sym, ap, subst, ◌∙◌, arith, inl, inr}
-use Rattle.std.specs.Prelude.{◌⊎◌, Contains, ⊤}
+use Rattle.std.specs.Prelude.{◌⊎◌, Contains, Option, ⊤}
 use Rattle.std.proofs.lemmas.List.Elements.{Contains-push_cases}
 use Rattle.drg_array.specs.Entries.{Entries, IsArray}
 use Rattle.drg_array.specs.ClaimOrder.{test_number, ComesBefore}
@@ -18,6 +18,8 @@ use Rattle.drg_evidence.specs.Made.{AreMade}
 use Rattle.drg_graph.specs.NumberLaws.{CountingClaimsLaw}
 use Rattle.drg_intersection.specs.Faults.{AllPass, IsFirstWide}
 use Rattle.drg_intersection.specs.Numbers.{AreNumbersOf}
+use Rattle.drg_orderings.specs.Orderings.{AreOrderings}
+use Rattle.drg_orderings.specs.PPolynomial.{IsPPolynomialOrdering}
 use Rattle.drg_replay.specs.Answers.{answer_of}
 use Rattle.drg_report.specs.declared.verdict.Cause.{Cause}
 use Rattle.drg_report.specs.declared.verdict.Cause.TheVariants.{Wide, Spectrum}
@@ -34,10 +36,12 @@ use Rattle.drg_engine.specs.Courses.{ComesFirst, NoneFailsWithin, RunsWithin}
 use Rattle.drg_engine.specs.Found.{AllAreSpectrum, AreFound, IsCertificate, IsPassed, SomeIsSpectrum, SomeIsWide}
 use Rattle.drg_engine.specs.Frames.{HasOtherSpectrum, IsFirstTooWide, IsFrameReached}
 use Rattle.drg_engine.specs.Laws.{HasFrameFor, ShowsFailure, UnfailedTestsHold}
+use Rattle.drg_engine.specs.Parameters.{HasParameters, HaveNoParameters}
 use Rattle.drg_engine.specs.Selections.{AreTests, IsEarlier, Runs, RunsBefore}
 use Rattle.drg_engine.specs.Verdicts.{AreAllFound, AreSpectraOf, HasSpectra, IsFirstFailing, IsFoundBefore, IsInfeasible, IsNodeOf, IsOpen, IsRefused, IsStopped, IsSurvivor, IsWideEntry}
 use Rattle.drg_engine.proofs.BuiltTests.{array_test, built_number, counting_claim, count_number, counts_decidable, counts_fail, counts_no_frame, is_mult, test_kind}
 use Rattle.drg_engine.proofs.FoundTests.{all_passed, nothing, one_more}
+use Rattle.drg_engine.proofs.NoParameters.{with_tables, without_tables}
 use Rattle.drg_engine.proofs.TestOrder.{all_but_mult, all_with_mult, all_within, tests_before}
 
 -- the derivation of these parts
@@ -108,9 +112,10 @@ module _ (law : UnfailedTestsHold) (a : Entries) (tests : List Test) where
   }
 
   pub survivor : (found : Survivor) → AreTests (Runs tests) found.passed → AreNumbersOf a found.numbers → AllPass a → HasSpectra a tests found.spectra
+      → AreOrderings (IsPPolynomialOrdering found.numbers) found.p_orderings → HasParameters tests found.spectra found.q_orderings
       → ((t : Test) → Runs tests t → HasFrameFor a t) → ((t : Test) → Runs tests t → IsDecidable a t)
       → ((claim : Claim) → Runs tests (test_of claim) → Fails a claim → ⊥) → IsSurvivor a tests found
-  survivor found are numbers_of pass spectra frame made none = record {
+  survivor found are numbers_of pass spectra orderings parameters frame made none = record {
     all_passed = are;
     held = λ t h.
         let runs = (are.members t).0 h in
@@ -121,14 +126,20 @@ module _ (law : UnfailedTestsHold) (a : Entries) (tests : List Test) where
     numbers_of = numbers_of;
     pass = pass;
     spectra_of = spectra;
+    p_orderings_of = orderings;
+    parameters_of = parameters;
   }
 
   -- ---- survivors
   pub survivor_without : (found : Survivor) → ¬ Runs tests test.Mult → NoneFailsWithin a tests 9 → AreTests (RunsWithin tests 9) found.passed
-      → AreNumbersOf a found.numbers → AllPass a → found.spectra ≡ None → IsSurvivor a tests found
-  survivor_without found never none are numbers_of pass no_spectra =
+      → AreNumbersOf a found.numbers → AllPass a → found.spectra ≡ None
+      → AreOrderings (IsPPolynomialOrdering found.numbers) found.p_orderings → found.q_orderings ≡ None → IsSurvivor a tests found
+  survivor_without found never none are numbers_of pass no_spectra orderings no_orderings =
       survivor found (all_but_mult tests found.passed never are) numbers_of pass
       (subst (HasSpectra a tests) (sym no_spectra) (λ t runs asks. never (subst (Runs tests) (is_mult t runs.0 asks) runs)))
+      orderings
+      (subst (λ (s : Option Spectra). HasParameters tests s found.q_orderings) (sym no_spectra)
+      (subst (HasParameters tests None) (sym no_orderings) (without_tables tests)))
       (λ t runs asks. absurd (never (subst (Runs tests) (is_mult t runs.0 asks) runs)))
       (λ t runs. elim (test_kind t runs.0) [ inl counted ↦ counts_decidable a t counted | inr same ↦ absurd (never (subst (Runs tests) same runs)) ])
       (λ claim runs fails. elim (test_kind (test_of claim) runs.0) [
@@ -142,10 +153,14 @@ module _ (law : UnfailedTestsHold) (a : Entries) (tests : List Test) where
 
   pub survivor_with : (found : Survivor) (spectra : Spectra) → Runs tests test.Mult → NoneFailsWithin a tests 9
       → ((claim : Claim) → test_of claim ≡ test.Mult → Fails a claim → ⊥) → AreTests (RunsWithin tests 10) found.passed
-      → AreNumbersOf a found.numbers → AllPass a → found.spectra ≡ Some spectra → AreSpectraOf a spectra → IsFrameReached a → IsSurvivor a tests found
-  survivor_with found spectra runs none no_mult are numbers_of pass is has made =
+      → AreNumbersOf a found.numbers → AllPass a → found.spectra ≡ Some spectra → AreSpectraOf a spectra → IsFrameReached a
+      → HaveNoParameters spectra → AreOrderings (IsPPolynomialOrdering found.numbers) found.p_orderings → found.q_orderings ≡ None → IsSurvivor a tests found
+  survivor_with found spectra runs none no_mult are numbers_of pass is has made no_parameters orderings no_orderings =
       survivor found (all_within tests found.passed are) numbers_of pass
       (subst (HasSpectra a tests) (sym is) (test.Mult, runs, tt, has))
+      orderings
+      (subst (λ (s : Option Spectra). HasParameters tests s found.q_orderings) (sym is)
+      (subst (HasParameters tests (Some spectra)) (sym no_orderings) (with_tables tests spectra no_parameters)))
       (λ t also asks. frame_in spectra has)
       (λ t also. elim (test_kind t also.0) [ inl counted ↦ counts_decidable a t counted | inr same ↦ subst (IsDecidable a) (sym same) made ])
       (λ claim also fails. elim (test_kind (test_of claim) also.0) [

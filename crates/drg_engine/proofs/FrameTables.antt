@@ -14,6 +14,7 @@ use Rattle.drg_evidence.proofs.RationalFrames.{rational_frame}
 use Rattle.drg_fraction.specs.Fraction.{rational_of}
 use Rattle.drg_fraction.specs.Rationals.{rational_operations}
 use Rattle.drg_fraction.specs.declared.fraction.Fraction.{Fraction}
+use Rattle.drg_krein.specs.Tables.{KreinTables}
 use Rattle.drg_matrices.specs.Frame.{IsFrameOf}
 use Rattle.drg_matrices.specs.Tables.{FrameTables, diameter_of, root_of_tables, theta_in, cosine_in, eigen_in, dual_in}
 use Rattle.drg_quadratic.specs.Operations.{value_operations}
@@ -54,7 +55,7 @@ pub mult_claim : (claim : Claim) → test_of claim ≡ test.Mult → (i : ℕ) �
 mult_claim (Mult i) e = (i, refl)
 mult_claim claim e = let n = ap test_number e in absurd (omega (arith, n))
 
-module _ (t : FrameTables Fraction) where
+module _ (t : FrameTables Fraction) (k : Option (KreinTables Fraction)) where
   abbrev pub FractionFails : Claim → Type 0
   FractionFails = FrameFailsMult rational_of (λ root. rational_operations) t
 
@@ -62,7 +63,7 @@ module _ (t : FrameTables Fraction) where
   fraction_test (Mult i) fails = refl
   fraction_test claim fails = absurd fails
 
-  pub fraction_fails : (a : Entries) (claim : Claim) → AreSpectraOf a (Rational (record { frame = t })) → FractionFails claim → Fails a claim
+  pub fraction_fails : (a : Entries) (claim : Claim) → AreSpectraOf a (Rational (record { frame = t; krein = k })) → FractionFails claim → Fails a claim
   fraction_fails a (Mult i) (d, root, has) (low, high, broken) = record {
     place = (low, omega (arith, high, d));
     frame = of_fractions t;
@@ -71,14 +72,14 @@ module _ (t : FrameTables Fraction) where
   }
   fraction_fails a claim has fails = absurd fails
 
-  pub fails_fraction : OneFrameOfValues → (a : Entries) → IsArray a → (i : ℕ) → AreSpectraOf a (Rational (record { frame = t })) → FailsMult a i → FractionFails (Mult i)
+  pub fails_fraction : OneFrameOfValues → (a : Entries) → IsArray a → (i : ℕ) → AreSpectraOf a (Rational (record { frame = t; krein = k })) → FailsMult a i → FractionFails (Mult i)
   fails_fraction one a array i (d, root, has) fails = (
     fails.place.0,
     (let high = fails.place.1 in omega (arith, high, d)),
     λ (n, above, e). fails.broken (one_multiplicity one a array (of_fractions t) fails.frame i has fails.is fails.place.1 (n, above, ap rational e)),
   )
 
-module _ (t : FrameTables TheQuadratic) where
+module _ (t : FrameTables TheQuadratic) (k : Option (KreinTables TheQuadratic)) where
   abbrev pub QuadraticFails : Claim → Type 0
   QuadraticFails = FrameFailsMult value_of value_operations t
 
@@ -86,7 +87,7 @@ module _ (t : FrameTables TheQuadratic) where
   quadratic_test (Mult i) fails = refl
   quadratic_test claim fails = absurd fails
 
-  pub quadratic_fails : (a : Entries) (claim : Claim) → AreSpectraOf a (Quadratic (record { frame = t })) → QuadraticFails claim → Fails a claim
+  pub quadratic_fails : (a : Entries) (claim : Claim) → AreSpectraOf a (Quadratic (record { frame = t; krein = k })) → QuadraticFails claim → Fails a claim
   quadratic_fails a (Mult i) (d, root, has) (low, high, broken) = record {
     place = (low, omega (arith, high, d));
     frame = of_quadratics t;
@@ -95,7 +96,7 @@ module _ (t : FrameTables TheQuadratic) where
   }
   quadratic_fails a claim has fails = absurd fails
 
-  pub fails_quadratic : OneFrameOfValues → (a : Entries) → IsArray a → (i : ℕ) → AreSpectraOf a (Quadratic (record { frame = t })) → FailsMult a i → QuadraticFails (Mult i)
+  pub fails_quadratic : OneFrameOfValues → (a : Entries) → IsArray a → (i : ℕ) → AreSpectraOf a (Quadratic (record { frame = t; krein = k })) → FailsMult a i → QuadraticFails (Mult i)
   fails_quadratic one a array i (d, root, has) fails = (
     fails.place.0,
     (let high = fails.place.1 in omega (arith, high, d)),

@@ -1,5 +1,6 @@
 pub mod Evidence
 pub mod FrameCauses
+pub mod NoParameters
 pub mod SameFrames
 pub mod MultTests
 pub mod FrameTables

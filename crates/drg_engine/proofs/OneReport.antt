@@ -11,6 +11,7 @@ use Rattle.drg_array.specs.declared.claim.Class.{Class}
 use Rattle.drg_array.specs.declared.node.Node.{Node}
 use Rattle.drg_array.specs.declared.test.Test.{Test}
 use Rattle.drg_array.specs.declared.test.Test.TheVariants as test
+use Rattle.drg_array.proofs.NumberLaws.{one_number as one_intersection}
 use Rattle.drg_array.proofs.TestLaws.{one_number}
 use Rattle.drg_counting.specs.EntryTests.{IsBasic}
 use Rattle.drg_derivation.specs.Content.{Content}
@@ -19,8 +20,11 @@ use Rattle.drg_eigen.specs.declared.split.OtherSpectrum.{OtherSpectrum}
 use Rattle.drg_evidence.specs.Laws.{OneFrameOfValues, OneListOfFrameLines}
 use Rattle.drg_evidence.specs.Lines.{AreLinesOf}
 use Rattle.drg_intersection.specs.Laws.{OneFault, NoFaultWhereAllPass}
-use Rattle.drg_intersection.specs.Numbers.{AreNumbersOf, Numbers, k_at, n_of}
+use Rattle.drg_intersection.specs.Numbers.{AreNumbersOf, Numbers, k_at, n_of, p_at}
 use Rattle.drg_intersection.proofs.Ranges.{one_whole}
+use Rattle.drg_orderings.specs.Orderings.{AreOrderings, IsOrdering}
+use Rattle.drg_orderings.specs.PPolynomial.{IsPPolynomialOrdering, IsZeroNumber}
+use Rattle.drg_report.specs.OrderingTexts.{p_lines, q_lines}
 use Rattle.drg_report.specs.Texts.{array_lines, numbers_lines, report_text, sizes_text, verdict_line}
 use Rattle.drg_report.specs.declared.verdict.Cause.{Cause}
 use Rattle.drg_report.specs.declared.verdict.Cause.TheVariants.{Wide, Spectrum}
@@ -43,7 +47,9 @@ use Rattle.drg_engine.proofs.ClaimFacts.{basic_runs}
 use Rattle.drg_engine.proofs.FoundTests.{all_passed, entry_of, nothing, one_found, passed_or_not}
 use Rattle.drg_engine.proofs.FrameCauses.{no_cause, one_other}
 use Rattle.drg_engine.proofs.OneLines.{one_lines}
+use Rattle.drg_engine.proofs.NoParameters.{no_orderings}
 use Rattle.drg_engine.proofs.OneList.{one_passed}
+use Rattle.drg_report.proofs.OneOrderings.{one_orderings}
 use Rattle.drg_engine.proofs.SameFrames.{same_spectra}
 use Rattle.drg_engine.proofs.WideNumbers.{no_claim, not_all_pass, one_part, one_wide}
 
@@ -63,6 +69,20 @@ same_numbers a numbers other are same =
     one_natural (k_at numbers i) (k_at other i) (sym (are.sizes i at) ∙ same.sizes i at)) in
     let all = ap (λ d. sizes_text numbers (suc d)) are.same_d ∙ (sizes ∙ ap (λ d. sizes_text other (suc d)) (sym same.same_d)) in
     ap₂ (λ (n : ℕ) text. codes "n " ++ decimal n ++ codes "\nsizes" ++ text ++ codes "\n") vertices all
+
+same_p_orderings : (a : Entries) → IsArray a → (numbers other : Numbers) → AreNumbersOf a numbers → AreNumbersOf a other → (orders others : List (List ℕ))
+    → AreOrderings (IsPPolynomialOrdering numbers) orders → AreOrderings (IsPPolynomialOrdering other) others → orders ≡ others
+same_p_orderings a array numbers other are same orders others right also =
+    let Y = IsZeroNumber numbers in
+    let Z = IsZeroNumber other in
+    one_orderings (diameter a) Y Z
+    (λ h i j first second third.
+    let e = one_natural (p_at numbers h i j) (p_at other h i j)
+    (one_intersection a h i j _ _ array second third (are.intersections h i j first second third) (same.intersections h i j first second third)) in
+    (λ (zero : Y h i j). sym e ∙ zero, λ (zero : Z h i j). e ∙ zero))
+    orders others
+    (subst (λ (d : ℕ). AreOrderings (IsOrdering d Y) orders) are.same_d right)
+    (subst (λ (d : ℕ). AreOrderings (IsOrdering d Z) others) same.same_d also)
 
 -- ---- two verdicts
 same_content : (δ ε : Content) → δ.array ≡ ε.array → δ.claim ≡ ε.claim → δ.lines ≡ ε.lines → δ ≡ ε
@@ -171,10 +191,13 @@ module _ (laws : FrameLaws) (frame : OneFrameOfValues) (list : OneListOfFrameLin
   both_survivors : (found other : Survivor) → IsSurvivor a tests found → IsSurvivor a tests other → report_text a (verdict.Survivor found) ≡ report_text a (verdict.Survivor other)
   both_survivors found other right also =
       let passed = one_passed (Runs tests) found.passed other.passed right.all_passed also.all_passed in
-      let tables = same_spectra frame a array tests found.spectra other.spectra right.spectra_of also.spectra_of in
+      let tables = same_spectra frame a array tests found.spectra other.spectra found.q_orderings other.q_orderings right.spectra_of also.spectra_of right.parameters_of also.parameters_of in
+      let p_orderings = same_p_orderings a array found.numbers other.numbers right.numbers_of also.numbers_of found.p_orderings other.p_orderings right.p_orderings_of also.p_orderings_of in
+      let q_orderings = no_orderings tests found.spectra found.q_orderings right.parameters_of ∙ sym (no_orderings tests other.spectra other.q_orderings also.parameters_of) in
       let start = ap₂ (λ (ts : List Test) (lines : List ℕ). verdict_line (verdict.Survivor other) ++ array_lines a ts ++ lines) passed
       (same_numbers a found.numbers other.numbers right.numbers_of also.numbers_of) in
-      ap₂ (λ (x y : List ℕ). x ++ y) start tables
+      let orderings = ap₂ (λ (x y : List ℕ). x ++ y) (ap₂ (λ (x y : List ℕ). x ++ y) start tables) (ap p_lines p_orderings) in
+      ap₂ (λ (x y : List ℕ). x ++ y) orderings (ap q_lines q_orderings)
 
   -- ---- verdicts of two kinds
   not_stopped : (found : Infeasible) (other : Undecided) → IsInfeasible a tests found → IsStopped a tests other → ⊥

@@ -26,6 +26,13 @@ IsSpectral test.Absolute = Unit {0}
 IsSpectral test.Triple = ⊥
 IsSpectral test.Ktriple = Unit {0}
 
+-- the test asks for the Krein parameters of the array too
+abbrev pub AsksForKrein : Test → Type 0
+AsksForKrein test.Krein = Unit {0}
+AsksForKrein test.Absolute = Unit {0}
+AsksForKrein test.Ktriple = Unit {0}
+AsksForKrein t = ⊥
+
 -- why the frame of the array isn't made
 abbrev pub IsFrameCause : Entries → Cause → Type 0
 IsFrameCause a (Wide node) = IsFirstTooWide a node

@@ -5,6 +5,7 @@ pub mod Selections
 pub mod Courses
 pub mod Causes
 pub mod Found
+pub mod Parameters
 pub mod SpectraFaults
 pub mod Verdicts
 pub mod Laws

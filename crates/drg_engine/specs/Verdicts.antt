@@ -14,6 +14,8 @@ use Rattle.drg_fraction.specs.Rationals.{rational_operations}
 use Rattle.drg_graph.specs.Graph.{NoGraph}
 use Rattle.drg_intersection.specs.Faults.{AllPass, IsFirstWide}
 use Rattle.drg_intersection.specs.Numbers.{AreNumbersOf}
+use Rattle.drg_orderings.specs.Orderings.{AreOrderings}
+use Rattle.drg_orderings.specs.PPolynomial.{IsPPolynomialOrdering}
 use Rattle.drg_quadratic.specs.Operations.{value_operations}
 use Rattle.drg_quadratic.specs.Quadratic.{value_of}
 use Rattle.drg_replay.specs.Answers.{answer_of}
@@ -32,6 +34,7 @@ use Rattle.drg_engine.specs.Causes.{IsDecidable, IsSpectral}
 use Rattle.drg_engine.specs.Conditions.{Holds, Fails}
 use Rattle.drg_engine.specs.Found.{AllAreSpectrum, AreFound, IsCertificate, IsPassed, SomeIsWide}
 use Rattle.drg_engine.specs.Frames.{HasOtherSpectrum}
+use Rattle.drg_engine.specs.Parameters.{HasParameters}
 use Rattle.drg_engine.specs.Selections.{AreTests, Runs, RunsBefore}
 use Rattle.drg_evidence.specs.FrameValues.{HasFrame, values_of}
 use Rattle.drg_evidence.specs.Lines.{AreLinesOf}
@@ -132,14 +135,16 @@ HasSpectra a tests None = (t : Test) → Runs tests t → IsSpectral t → ⊥
 HasSpectra a tests (Some spectra) =
     (t : Test) × Runs tests t × IsSpectral t × AreSpectraOf a spectra
 
--- Each test that runs holds, these are the numbers of the array, and its frame where it is asked
--- for.
+-- Each test that runs holds, these are the numbers of the array, and its frame and its Krein
+-- parameters where these are asked for, and exactly its orderings.
 pub record IsSurvivor (a : Entries) (tests : List Test) (found : Survivor) : Type 0 where
   pub all_passed : AreTests (Runs tests) found.passed
   pub held : (t : Test) → Contains found.passed t → IsPassed a t
   pub numbers_of : AreNumbersOf a found.numbers
   pub pass : AllPass a
   pub spectra_of : HasSpectra a tests found.spectra
+  pub p_orderings_of : AreOrderings (IsPPolynomialOrdering found.numbers) found.p_orderings
+  pub parameters_of : HasParameters tests found.spectra found.q_orderings
 
 -- The verdict is right for the array and the selected tests.
 abbrev pub VerdictHolds : Entries → List Test → Verdict → Type 0

@@ -15,6 +15,7 @@ ghost use Rattle.drg_engine.specs.Causes.{IsDecidable};
 ghost use Rattle.drg_engine.specs.Conditions.{Fails, IsBuilt};
 ghost use Rattle.drg_engine.specs.Courses.{ComesFirst, IsCourse, NoneFailsWithin};
 ghost use Rattle.drg_engine.specs.Frames.{HasOtherSpectrum, IsFirstTooWide, IsFrameReached};
+ghost use Rattle.drg_engine.specs.Parameters.{HaveNoParameters};
 ghost use Rattle.drg_engine.specs.Selections.{Runs};
 ghost use Rattle.drg_engine.specs.SpectraFaults.{IsSpectraFault};
 ghost use Rattle.drg_evidence.specs.Lines.{AreLinesOf};
@@ -31,6 +32,7 @@ use drg_eigen::OtherSpectrum;
 use drg_evidence::count_lines;
 use drg_graph::counting_claims_law;
 use drg_intersection::{Numbers, NumbersFault, numbers_or_before};
+use drg_orderings::p_orderings;
 use drg_report::{
     Cause, Infeasible, Pending, PendingTests, RefusedSpectrum, Spectra, Survivor, Undecided,
     Verdict,
@@ -87,11 +89,14 @@ fn judge_numbers(
     if tests.has(Test::Mult) {
         return judge_spectrum(alloc, array, tests, numbers, course);
     }
+    let p_orderings = p_orderings(alloc, &numbers)?;
     let passed = course.passed;
     Ok(Verdict::Survivor(Survivor {
         passed,
         numbers,
         spectra: None,
+        p_orderings,
+        q_orderings: None,
     }))
 }
 
@@ -135,6 +140,7 @@ fn judge_frame(
     requires none { NoneFailsWithin array.now tests.now 9 }
     requires spectra { AreSpectraOf array.now spectra }
     requires made { IsFrameReached array.now }
+    requires parameters { HaveNoParameters spectra }
     ensures { IfOk result (VerdictHolds array.now tests.now) }
 {
     array.known_valid();
@@ -144,11 +150,14 @@ fn judge_frame(
         return Ok(infeasible_by(array, claim, lines, course.pending));
     }
     course.pass_up_to(Test::Mult, tests)?;
+    let p_orderings = p_orderings(alloc, &numbers)?;
     let passed = course.passed;
     Ok(Verdict::Survivor(Survivor {
         passed,
         numbers,
         spectra: Some(spectra),
+        p_orderings,
+        q_orderings: None,
     }))
 }
 

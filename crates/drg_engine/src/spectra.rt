@@ -12,6 +12,7 @@ ghost use Rattle.drg_intersection.specs.Numbers.{AreNumbersOf};
 ghost use Rattle.drg_engine.specs.Conditions.{Fails};
 ghost use Rattle.drg_engine.specs.Frames.{HasSpectrum, IsFactored, IsFrameReached};
 ghost use Rattle.drg_evidence.specs.Lines.{AreLinesOf};
+ghost use Rattle.drg_engine.specs.Parameters.{HaveNoParameters};
 ghost use Rattle.drg_engine.specs.SpectraFaults.{IsSpectraFault};
 ghost use Rattle.drg_engine.specs.Verdicts.{AreSpectraOf};
 ghost use Rattle.drg_engine.specs.declared.spectra.SpectraFault.TheVariants as fault;
@@ -78,6 +79,7 @@ pub(crate) fn spectra_of(
     requires numbers { AreNumbersOf array.now numbers.now }
     ensures spectra { IfOk result (AreSpectraOf array.now) }
     ensures made { IfOk result (λ spectra. IsFrameReached array.now) }
+    ensures parameters { IfOk result HaveNoParameters }
     ensures fault { IfErr result (IsSpectraFault array.now) }
 {
     array.known_valid();
@@ -101,14 +103,15 @@ fn spectra_over(
     requires spectrum { HasSpectrum array.now spectrum.now.root spectrum.now.thetas }
     ensures spectra { IfOk result (AreSpectraOf array.now) }
     ensures made { IfOk result (λ spectra. IsFrameReached array.now) }
+    ensures parameters { IfOk result HaveNoParameters }
     ensures fault { IfErr result (IsSpectraFault array.now) }
 {
     if spectrum.root == 0 {
         let frame = frame_of::<Fraction>(alloc, array, numbers, spectrum)?;
-        return Ok(Spectra::Rational(SpectralTables { frame }));
+        return Ok(Spectra::Rational(SpectralTables { frame, krein: None }));
     }
     let frame = frame_of::<Quadratic>(alloc, array, numbers, spectrum)?;
-    Ok(Spectra::Quadratic(SpectralTables { frame }))
+    Ok(Spectra::Quadratic(SpectralTables { frame, krein: None }))
 }
 
 /// The first failing claim of the test mult, of the array that has this frame.

@@ -2,7 +2,15 @@
 use crate::judge;
 use drg_array::{Array, TestSet};
 use drg_report::render;
+use std::alloc::Global;
 use std::test::Fail;
+
+/// The text of the report on the array, where these tests are selected.
+fn report_on(alloc: Global, array: &Array, tests: &TestSet) -> Result<Vec<u8>, Fail> {
+    let verdict = judge(alloc, array, tests)?;
+    let text = render(alloc, array, &verdict)?;
+    Ok(text)
+}
 
 #[test]
 fn reports(rt: HostRuntime) -> Result<(), Fail> {
@@ -84,14 +92,16 @@ verdict infeasible triangles 8 counting\n",
             "{3,2;1,1}",
             "triangles,handshake",
             "verdict survivor\narray {3,2;1,1}\n\
-passed first degree order cross size intersect handshake triangles\nn 10\nsizes 1 3 6\n",
+passed first degree order cross size intersect handshake triangles\nn 10\nsizes 1 3 6\n\
+ppoly 1 2\nppoly 2 1\n",
         ),
         // It fails triangles, which isn't selected.
         (
             "{4,2;1,1}",
             "induced",
             "verdict survivor\narray {4,2;1,1}\n\
-passed first degree order cross size intersect induced\nn 13\nsizes 1 4 8\n",
+passed first degree order cross size intersect induced\nn 13\nsizes 1 4 8\n\
+ppoly 1 2\nppoly 2 1\n",
         ),
         // The cube of dimension 12.
         (
@@ -99,7 +109,8 @@ passed first degree order cross size intersect induced\nn 13\nsizes 1 4 8\n",
             all,
             "verdict survivor\narray {12,11,10,9,8,7,6,5,4,3,2,1;1,2,3,4,5,6,7,8,9,10,11,12}\n\
 passed first degree order cross size intersect handshake induced triangles\nn 4096\n\
-sizes 1 12 66 220 495 792 924 792 495 220 66 12 1\n",
+sizes 1 12 66 220 495 792 924 792 495 220 66 12 1\n\
+ppoly 1 2 3 4 5 6 7 8 9 10 11 12\nppoly 11 2 9 4 7 6 5 8 3 10 1 12\n",
         ),
         // 4095·4094^9 is below 2^120, 4095·4094^10 above 2^131.
         (
@@ -129,8 +140,7 @@ passed first degree order cross size\npending intersect wide p 0 11 10\n",
     for (array, names, report) in cases {
         let array = Array::read(array.as_bytes())?;
         let tests = TestSet::read(names).expect(&rt, "a list of tests");
-        let verdict = judge(rt.alloc(), &array, &tests)?;
-        let text = render(rt.alloc(), &array, &verdict)?;
+        let text = report_on(rt.alloc(), &array, &tests)?;
         assert_eq!(rt; text.as_slice(), report.as_bytes(), "{report}");
     }
     Ok(())
@@ -144,7 +154,8 @@ fn reports_of_mult(rt: HostRuntime) -> Result<(), Fail> {
             "{3,2;1,1}",
             "verdict survivor\narray {3,2;1,1}\npassed first degree order cross size intersect mult\n\
 n 10\nsizes 1 3 6\nroot 0\ntheta 3 1 -2\nP 1 3 6\nP 1 1 -2\nP 1 -2 1\nQ 1 5 4\n\
-Q 1 5/3 -8/3\nQ 1 -5/3 2/3\n",
+Q 1 5/3 -8/3\nQ 1 -5/3 2/3\n\
+ppoly 1 2\nppoly 2 1\n",
         ),
         // The pentagon.
         (
@@ -152,7 +163,8 @@ Q 1 5/3 -8/3\nQ 1 -5/3 2/3\n",
             "verdict survivor\narray {2,1;1,1}\npassed first degree order cross size intersect mult\n\
 n 5\nsizes 1 2 2\nroot 5\ntheta 2 -1/2+1/2r5 -1/2-1/2r5\nP 1 2 2\n\
 P 1 -1/2+1/2r5 -1/2-1/2r5\nP 1 -1/2-1/2r5 -1/2+1/2r5\nQ 1 2 2\nQ 1 -1/2+1/2r5 -1/2-1/2r5\n\
-Q 1 -1/2-1/2r5 -1/2+1/2r5\n",
+Q 1 -1/2-1/2r5 -1/2+1/2r5\n\
+ppoly 1 2\nppoly 2 1\n",
         ),
         // The octagon.
         (
@@ -161,7 +173,8 @@ Q 1 -1/2-1/2r5 -1/2+1/2r5\n",
 passed first degree order cross size intersect mult\nn 8\nsizes 1 2 2 2 1\nroot 2\n\
 theta 2 1r2 0 -1r2 -2\nP 1 2 2 2 1\nP 1 1r2 0 -1r2 -1\nP 1 0 -2 0 1\nP 1 -1r2 0 1r2 -1\n\
 P 1 -2 2 -2 1\nQ 1 2 2 2 1\nQ 1 1r2 0 -1r2 -1\nQ 1 0 -2 0 1\nQ 1 -1r2 0 1r2 -1\n\
-Q 1 -2 2 -2 1\n",
+Q 1 -2 2 -2 1\n\
+ppoly 1 2 3 4\nppoly 3 2 1 4\n",
         ),
         // The multiplicity m_1 is 8 + (4/13)√13.
         (
@@ -207,14 +220,14 @@ passed first degree order cross size intersect\npending mult wide poly 13\n",
 passed first degree order cross size intersect mult\nn 8004002\nsizes 1 2001 4002000 4000000\n\
 root 5\ntheta 2001 20r5 -20r5 -2001\nP 1 2001 4002000 4000000\nP 1 20r5 -1 -20r5\n\
 P 1 -20r5 -1 20r5\nP 1 -2001 4002000 -4000000\nQ 1 4002000 4002000 1\n\
-Q 1 40000r5 -40000r5 -1\nQ 1 -1 -1 1\nQ 1 -2001/100r5 2001/100r5 -1\n",
+Q 1 40000r5 -40000r5 -1\nQ 1 -1 -1 1\nQ 1 -2001/100r5 2001/100r5 -1\n\
+ppoly 1 2 3\nppoly 3 2 1\n",
         ),
     ];
     for (array, report) in cases {
         let array = Array::read(array.as_bytes())?;
         let tests = TestSet::read("mult").expect(&rt, "a list of tests");
-        let verdict = judge(rt.alloc(), &array, &tests)?;
-        let text = render(rt.alloc(), &array, &verdict)?;
+        let text = report_on(rt.alloc(), &array, &tests)?;
         assert_eq!(rt; text.as_slice(), report.as_bytes(), "{report}");
     }
     Ok(())
@@ -226,14 +239,14 @@ Q 1 40000r5 -40000r5 -1\nQ 1 -1 -1 1\nQ 1 -2001/100r5 2001/100r5 -1\n",
 fn report_of_a_cube(rt: HostRuntime) -> Result<(), Fail> {
     let cube = Array::read(b"{12,11,10,9,8,7,6,5,4,3,2,1;1,2,3,4,5,6,7,8,9,10,11,12}")?;
     let tests = TestSet::read("mult").expect(&rt, "a list of tests");
-    let verdict = judge(rt.alloc(), &cube, &tests)?;
-    let text = render(rt.alloc(), &cube, &verdict)?;
+    let text = report_on(rt.alloc(), &cube, &tests)?;
     let start = b"verdict survivor\narray {12,11,10,9,8,7,6,5,4,3,2,1;1,2,3,4,5,6,7,8,9,10,11,12}\n\
 passed first degree order cross size intersect mult\nn 4096\n\
 sizes 1 12 66 220 495 792 924 792 495 220 66 12 1\nroot 0\n\
 theta 12 10 8 6 4 2 0 -2 -4 -6 -8 -10 -12\nP 1 12 66 220 495 792 924 792 495 220 66 12 1\n";
-    let end = b"Q 1 -12 66 -220 495 -792 924 -792 495 -220 66 -12 1\n";
+    let end = b"Q 1 -12 66 -220 495 -792 924 -792 495 -220 66 -12 1\n\
+ppoly 1 2 3 4 5 6 7 8 9 10 11 12\nppoly 11 2 9 4 7 6 5 8 3 10 1 12\n";
     assert!(rt; text.as_slice().starts_with(start), "the first lines");
-    assert!(rt; text.as_slice().ends_with(end), "the last line");
+    assert!(rt; text.as_slice().ends_with(end), "the last lines");
     Ok(())
 }

@@ -43,10 +43,11 @@ IsReadable (verdict.Survivor found) = ⊤
 -- A right verdict on the array, where these tests are selected. What a right verdict says stands in specs/Verdicts.antt of
 -- drg_engine. Of an infeasible array it says that the array fails the claim and no claim before it, that its derivation is
 -- accepted with the class that is written, and, where this is the class of counting, that no graph has the array. Of a survivor
--- it says that each test that runs holds, that these are its numbers, and that its frame is there where a test asks for it. Of an
--- undecided one it says which numbers are too wide, and that each test that can be decided holds. Of a refused one it says that no
--- one quadratic field holds its eigenvalues. Where no number is too wide and one quadratic field holds the eigenvalues, if a test
--- asks for them, the array is infeasible exactly where a test that runs doesn't hold, and else a survivor.
+-- it says that each test that runs holds, that these are its numbers and exactly its P-polynomial orderings, and that its frame
+-- is there where a test asks for it. Of an undecided one it says which numbers are too wide, and that each test that can be
+-- decided holds. Of a refused one it says that no one quadratic field holds its eigenvalues. Where no number is too wide and
+-- one quadratic field holds the eigenvalues, if a test asks for them, the array is infeasible exactly where a test that runs
+-- doesn't hold, and else a survivor.
 pub record IsJudged (a : Entries) (tests : List Test) (verdict : Verdict) : Type 0 where
   pub holds : VerdictHolds a tests verdict
   pub readable : IsReadable verdict

@@ -8,7 +8,7 @@ const ROOM: usize = 1000;
 
 /// The report of the Petersen graph's array.
 const PETERSEN: &str =
-    "verdict survivor\narray {3,2;1,1}\npassed first degree order cross size intersect handshake induced triangles mult\nn 10\nsizes 1 3 6\nroot 0\ntheta 3 1 -2\nP 1 3 6\nP 1 1 -2\nP 1 -2 1\nQ 1 5 4\nQ 1 5/3 -8/3\nQ 1 -5/3 2/3\n";
+    "verdict survivor\narray {3,2;1,1}\npassed first degree order cross size intersect handshake induced triangles mult\nn 10\nsizes 1 3 6\nroot 0\ntheta 3 1 -2\nP 1 3 6\nP 1 1 -2\nP 1 -2 1\nQ 1 5 4\nQ 1 5/3 -8/3\nQ 1 -5/3 2/3\nppoly 1 2\nppoly 2 1\n";
 
 /// The report of `{3,2;1,2}`: 7 vertices with 3 neighbours each.
 const HANDSHAKE: &str =
@@ -97,14 +97,14 @@ const CHECKED: [(&str, &str, Status, &str); 25] = [
         "",
         "{3;1}",
         Status::Survivor,
-        "verdict survivor\narray {3;1}\npassed first degree order cross size intersect handshake induced triangles mult\nn 4\nsizes 1 3\nroot 0\ntheta 3 -1\nP 1 3\nP 1 -1\nQ 1 3\nQ 1 -1\n",
+        "verdict survivor\narray {3;1}\npassed first degree order cross size intersect handshake induced triangles mult\nn 4\nsizes 1 3\nroot 0\ntheta 3 -1\nP 1 3\nP 1 -1\nQ 1 3\nQ 1 -1\nppoly 1\n",
     ),
     // The pentagon.
     (
         "mult",
         "{2,1;1,1}\n",
         Status::Survivor,
-        "verdict survivor\narray {2,1;1,1}\npassed first degree order cross size intersect mult\nn 5\nsizes 1 2 2\nroot 5\ntheta 2 -1/2+1/2r5 -1/2-1/2r5\nP 1 2 2\nP 1 -1/2+1/2r5 -1/2-1/2r5\nP 1 -1/2-1/2r5 -1/2+1/2r5\nQ 1 2 2\nQ 1 -1/2+1/2r5 -1/2-1/2r5\nQ 1 -1/2-1/2r5 -1/2+1/2r5\n",
+        "verdict survivor\narray {2,1;1,1}\npassed first degree order cross size intersect mult\nn 5\nsizes 1 2 2\nroot 5\ntheta 2 -1/2+1/2r5 -1/2-1/2r5\nP 1 2 2\nP 1 -1/2+1/2r5 -1/2-1/2r5\nP 1 -1/2-1/2r5 -1/2+1/2r5\nQ 1 2 2\nQ 1 -1/2+1/2r5 -1/2-1/2r5\nQ 1 -1/2-1/2r5 -1/2+1/2r5\nppoly 1 2\nppoly 2 1\n",
     ),
     // The heptagon: the eigenvalues other than 2 are roots of x³ + x² - 2x - 1.
     (
@@ -118,7 +118,7 @@ const CHECKED: [(&str, &str, Status, &str); 25] = [
         "mult",
         "{2001,2000,2000;1,1,2001}\n",
         Status::Survivor,
-        "verdict survivor\narray {2001,2000,2000;1,1,2001}\npassed first degree order cross size intersect mult\nn 8004002\nsizes 1 2001 4002000 4000000\nroot 5\ntheta 2001 20r5 -20r5 -2001\nP 1 2001 4002000 4000000\nP 1 20r5 -1 -20r5\nP 1 -20r5 -1 20r5\nP 1 -2001 4002000 -4000000\nQ 1 4002000 4002000 1\nQ 1 40000r5 -40000r5 -1\nQ 1 -1 -1 1\nQ 1 -2001/100r5 2001/100r5 -1\n",
+        "verdict survivor\narray {2001,2000,2000;1,1,2001}\npassed first degree order cross size intersect mult\nn 8004002\nsizes 1 2001 4002000 4000000\nroot 5\ntheta 2001 20r5 -20r5 -2001\nP 1 2001 4002000 4000000\nP 1 20r5 -1 -20r5\nP 1 -20r5 -1 20r5\nP 1 -2001 4002000 -4000000\nQ 1 4002000 4002000 1\nQ 1 40000r5 -40000r5 -1\nQ 1 -1 -1 1\nQ 1 -2001/100r5 2001/100r5 -1\nppoly 1 2 3\nppoly 3 2 1\n",
     ),
     // k_10 = 4095·4094^9 is below 2^120, and the product of k_10 and b_10 is above 2^127.
     (
@@ -151,7 +151,7 @@ const CHECKED: [(&str, &str, Status, &str); 25] = [
         "none",
         "{3,2;1,2}\n",
         Status::Survivor,
-        "verdict survivor\narray {3,2;1,2}\npassed first degree order cross size intersect\nn 7\nsizes 1 3 3\n",
+        "verdict survivor\narray {3,2;1,2}\npassed first degree order cross size intersect\nn 7\nsizes 1 3 3\nppoly 1 2\nppoly 2 1\n",
     ),
     ("handshake", "{3,2;1,2}\n", Status::Infeasible, HANDSHAKE),
     ("induced", "{3,2;1,2}\n", Status::Infeasible, INDUCED),
@@ -189,7 +189,7 @@ const CHECKED: [(&str, &str, Status, &str); 25] = [
         "handshake",
         "{5,2;1,1}\n",
         Status::Survivor,
-        "verdict survivor\narray {5,2;1,1}\npassed first degree order cross size intersect handshake\nn 16\nsizes 1 5 10\n",
+        "verdict survivor\narray {5,2;1,1}\npassed first degree order cross size intersect handshake\nn 16\nsizes 1 5 10\nppoly 1 2\nppoly 2 1\n",
     ),
 ];
 

@@ -1,2 +1,4 @@
 mod Appends
 pub mod FrameTexts
+pub mod KreinLines
+pub mod OneOrderings

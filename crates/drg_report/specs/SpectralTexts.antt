@@ -1,11 +1,13 @@
--- The lines of the eigenvalues of an array, and of its matrices P and Q.
+-- The lines of the eigenvalues of an array, of its matrices P and Q, and of its Krein parameters.
 use Rattle.std.specs.Prelude.{ℕ, suc, ◌≤◌, List, [], ◌++◌, Option, Some, None, ⊤, codes, decimal}
 use Rattle.drg_fraction.specs.Fraction.{rational_of}
 use Rattle.drg_fraction.specs.Operations.{Operations}
 use Rattle.drg_fraction.specs.Rationals.{rational_operations}
+use Rattle.drg_krein.specs.Tables.{KreinTables}
 use Rattle.drg_matrices.specs.Tables.{FrameTables, diameter_of, root_of_tables, theta_in, eigen_in, dual_in}
 use Rattle.drg_quadratic.specs.Operations.{value_operations}
 use Rattle.drg_quadratic.specs.Quadratic.{value_of}
+use Rattle.drg_report.specs.KreinTexts.{krein_lines}
 use Rattle.drg_report.specs.Pieces.{pieces, spaced}
 use Rattle.drg_report.specs.Words.{field_text}
 use Rattle.drg_report.specs.declared.tables.Row.{Row}
@@ -60,9 +62,14 @@ module _ {A V : Type 0} (value : A → V) (operations : ℕ → Operations V) (t
       root_line (root_of_tables t) ++ row_line Thetas ++ eigen_lines (suc (diameter_of t))
       ++ dual_lines (suc (diameter_of t))
 
+  -- these lines, and those of the Krein parameters, where there are any
+  abbrev pub table_lines : Option (KreinTables A) → List ℕ
+  table_lines krein = frame_lines ++ krein_lines value operations krein
+
 -- the lines of the tables, where there are any
 abbrev pub spectra_lines : Option Spectra → List ℕ
 spectra_lines None = []
 spectra_lines (Some (Rational tables)) =
-    frame_lines rational_of (λ root. rational_operations) tables.frame
-spectra_lines (Some (Quadratic tables)) = frame_lines value_of value_operations tables.frame
+    table_lines rational_of (λ root. rational_operations) tables.frame tables.krein
+spectra_lines (Some (Quadratic tables)) =
+    table_lines value_of value_operations tables.frame tables.krein

@@ -8,6 +8,7 @@ use Rattle.drg_array.specs.declared.test.Test.{Test}
 use Rattle.drg_derivation.specs.Text.{derivation_text}
 use Rattle.drg_intersection.specs.Numbers.{Numbers, k_at, n_of}
 use Rattle.drg_report.specs.Certificates.{certificate_lines, other_lines}
+use Rattle.drg_report.specs.OrderingTexts.{p_lines, q_lines}
 use Rattle.drg_report.specs.Pieces.{pieces, spaced}
 use Rattle.drg_report.specs.SpectralTexts.{spectra_lines}
 use Rattle.drg_report.specs.Words.{pending_text, verdict_words}
@@ -48,7 +49,8 @@ numbers_lines numbers =
 
 -- The one text of a report. An infeasible array has its derivation first, so that a reader of
 -- derivations can read the report, and then the claim and its class. The others have the array and
--- the tests that ran and hold. The certificate and the tables stand where the verdict has them.
+-- the tests that ran and hold. The certificate, the tables and the Q-polynomial orderings stand where
+-- the verdict has them.
 abbrev pub report_text : Entries → Verdict → List ℕ
 report_text a (Infeasible found) =
     derivation_text found.derivation ++ verdict_line (Infeasible found)
@@ -61,4 +63,4 @@ report_text a (RefusedSpectrum found) =
     ++ pending_lines found.pending ++ certificate_lines found.other
 report_text a (Survivor found) =
     verdict_line (Survivor found) ++ array_lines a found.passed ++ numbers_lines found.numbers
-    ++ spectra_lines found.spectra
+    ++ spectra_lines found.spectra ++ p_lines found.p_orderings ++ q_lines found.q_orderings

@@ -8,6 +8,7 @@ ghost use Rattle.drg_algebra.specs.Beginnings.{BeginsWith};
 ghost use Rattle.drg_report.specs.Texts.{array_lines, names_text, numbers_lines, pending_line, pending_lines, report_text, sizes_text, verdict_line};
 
 use crate::certificate::{write_certificate_lines, write_other_lines};
+use crate::orderings::{write_p_lines, write_q_lines};
 use crate::tables::write_spectra_lines;
 use crate::words::{write_pending_text, write_verdict_words};
 use crate::{Pending, Verdict};
@@ -45,6 +46,8 @@ pub fn render(alloc: Global, array: &Array, verdict: &Verdict) -> Result<Vec<u8>
             write_array_lines(array, found.passed.as_slice(), &mut text)?;
             write_numbers_lines(&found.numbers, &mut text)?;
             write_spectra_lines(&found.spectra, &mut text)?;
+            write_p_lines(&found.p_orderings, &mut text)?;
+            write_q_lines(&found.q_orderings, &mut text)?;
         }
     }
     Ok(text)

@@ -1,14 +1,15 @@
-//! The lines of the eigenvalues of an array, and of its matrices P and Q.
+//! The lines of the eigenvalues of an array, of its matrices P and Q, and of its Krein parameters.
 
 ghost use Rattle.std.specs.Prelude.{◌≡◌, ◌≤◌, ◌++◌, suc, OnOk, OnErr};
 ghost use Rattle.drg_algebra.specs.Beginnings.{BeginsWith};
 ghost use Rattle.drg_matrices.specs.Tables.{diameter_of, root_of_tables};
 ghost use Rattle.drg_report.specs.Pieces.{spaced};
 ghost use Rattle.drg_report.specs.Words.{field_text};
-ghost use Rattle.drg_report.specs.SpectralTexts.{IsRowOf, dual_lines, eigen_lines, frame_lines, root_line, row_line, row_value, row_word, spectra_lines, values_text};
+ghost use Rattle.drg_report.specs.SpectralTexts.{IsRowOf, dual_lines, eigen_lines, frame_lines, root_line, row_line, row_value, row_word, spectra_lines, table_lines, values_text};
 
-use crate::Spectra;
+use crate::krein::write_krein_lines;
 use crate::words::write_value;
+use crate::{Spectra, SpectralTables};
 use drg_fraction::Field;
 use drg_matrices::Frame;
 use itoa::Buffer;
@@ -60,9 +61,24 @@ pub(crate) fn write_spectra_lines(
 {
     match spectra {
         None => Ok(()),
-        Some(Spectra::Rational(tables)) => write_frame_lines(&tables.frame, out),
-        Some(Spectra::Quadratic(tables)) => write_frame_lines(&tables.frame, out),
+        Some(Spectra::Rational(tables)) => write_table_lines(tables, out),
+        Some(Spectra::Quadratic(tables)) => write_table_lines(tables, out),
     }
+}
+
+/// Appends the lines of the frame, and those of its Krein parameters, where there are any.
+fn write_table_lines<F: Field>(
+    tables: &SpectralTables<F>,
+    out: &mut Vec<u8>,
+) -> Result<(), AllocError>
+    ensures ok { OnOk result (out.new.items ≡ out.old.items
+        ++ table_lines F.value F.operations tables.now.frame tables.now.krein) }
+    ensures err { OnErr result
+        (BeginsWith (table_lines F.value F.operations tables.now.frame tables.now.krein)
+        out.old.items out.new.items) }
+{
+    write_frame_lines(&tables.frame, out)?;
+    write_krein_lines(&tables.krein, out)
 }
 
 /// Appends the lines of the root, of the eigenvalues, and of the rows of P and of Q.
@@ -145,7 +161,7 @@ fn write_values<F: Field>(frame: &Frame<F>, row: Row, out: &mut Vec<u8>) -> Resu
 }
 
 /// Appends a space and the value.
-fn write_spaced_value<F: Field>(value: F, out: &mut Vec<u8>) -> Result<(), AllocError>
+pub(crate) fn write_spaced_value<F: Field>(value: F, out: &mut Vec<u8>) -> Result<(), AllocError>
     ensures ok { let root = F.root_of value in OnOk result (out.new.items
         ≡ out.old.items ++ spaced (field_text (F.operations root) root (F.value value))) }
     ensures err { let root = F.root_of value in OnErr result

@@ -1,5 +1,10 @@
 //! Texts by hand. The verdicts needn't be right.
 
+ghost use Rattle.drg_array.specs.Conditions.{CountsHold};
+ghost use Rattle.drg_array.specs.Entries.{b_at};
+ghost use Rattle.drg_array.specs.declared.test.Test.TheVariants.{First};
+ghost use Rattle.drg_eigen.specs.Characteristic.{characteristic};
+ghost use Rattle.drg_eigen.specs.Spectrum.{IsSpectrum};
 ghost use Rattle.drg_intersection.specs.Numbers.{AreNumbersOf};
 
 use crate::{
@@ -8,10 +13,12 @@ use crate::{
 };
 use drg_array::{Array, Claim, Class, Node, Test};
 use drg_derivation::Derivation;
-use drg_eigen::{OtherSpectrum, Split, characteristic, split_of};
-use drg_fraction::Fraction;
+use drg_eigen::{OtherSpectrum, Spectrum, Split, characteristic, split_of};
+use drg_fraction::{Field, Fraction};
 use drg_intersection::{Numbers, numbers_of};
+use drg_krein::{Krein, krein_of};
 use drg_matrices::frame_of;
+use drg_orderings::{Orderings, p_orderings, q_orderings};
 use drg_quadratic::Quadratic;
 use std::alloc::Global;
 use std::process::Abort;
@@ -43,9 +50,40 @@ fn refused(test: Test) -> Pending {
     }
 }
 
-/// The eigenvalues of the array with its matrices. There are none where no one quadratic field holds
-/// the eigenvalues.
-fn spectra_of(alloc: Global, array: &Array, numbers: &Numbers) -> Result<Option<Spectra>, Fail>
+/// The frame of the array over the field, with its Krein parameters where the test isn't mult.
+fn tables_over<F: Field>(
+    alloc: Global,
+    array: &Array,
+    numbers: &Numbers,
+    spectrum: &Spectrum,
+    test: Test,
+) -> Result<SpectralTables<F>, Fail>
+    requires allowed { F.HasRoot spectrum.now.root }
+    requires first { CountsHold array.now First }
+    requires numbers { AreNumbersOf array.now numbers.now }
+    requires spectrum { IsSpectrum (b_at array.now 0) (characteristic array.now)
+        spectrum.now.root spectrum.now.thetas }
+{
+    array.known_valid();
+    let frame = frame_of::<F>(alloc, array, numbers, spectrum)?;
+    if test == Test::Mult {
+        return Ok(SpectralTables { frame, krein: None });
+    }
+    let krein = krein_of(alloc, numbers, &frame)?;
+    Ok(SpectralTables {
+        frame,
+        krein: Some(krein),
+    })
+}
+
+/// The tables of the array that a report has where this test runs. There are none where no one
+/// quadratic field holds the eigenvalues.
+fn spectra_of(
+    alloc: Global,
+    array: &Array,
+    numbers: &Numbers,
+    test: Test,
+) -> Result<Option<Spectra>, Fail>
     requires { AreNumbersOf array.now numbers.now }
 {
     array.known_valid();
@@ -57,11 +95,28 @@ fn spectra_of(alloc: Global, array: &Array, numbers: &Numbers) -> Result<Option<
         return Ok(None);
     }
     if spectrum.root == 0 {
-        let frame = frame_of::<Fraction>(alloc, array, numbers, &spectrum)?;
-        return Ok(Some(Spectra::Rational(SpectralTables { frame })));
+        let tables = tables_over::<Fraction>(alloc, array, numbers, &spectrum, test)?;
+        return Ok(Some(Spectra::Rational(tables)));
     }
-    let frame = frame_of::<Quadratic>(alloc, array, numbers, &spectrum)?;
-    Ok(Some(Spectra::Quadratic(SpectralTables { frame })))
+    let tables = tables_over::<Quadratic>(alloc, array, numbers, &spectrum, test)?;
+    Ok(Some(Spectra::Quadratic(tables)))
+}
+
+/// The Q-polynomial orderings, where there are Krein parameters.
+fn q_over<F: Field>(alloc: Global, krein: &Option<Krein<F>>) -> Result<Option<Orderings>, Fail> {
+    match krein {
+        None => Ok(None),
+        Some(krein) => Ok(Some(q_orderings(alloc, krein)?)),
+    }
+}
+
+/// Those of these tables.
+fn q_of(alloc: Global, spectra: &Option<Spectra>) -> Result<Option<Orderings>, Fail> {
+    match spectra {
+        None => Ok(None),
+        Some(Spectra::Rational(tables)) => q_over(alloc, &tables.krein),
+        Some(Spectra::Quadratic(tables)) => q_over(alloc, &tables.krein),
+    }
 }
 
 /// The certificate of an array, where no one quadratic field holds its eigenvalues.
@@ -74,16 +129,21 @@ fn other_of(alloc: Global, array: &Array) -> Result<Option<OtherSpectrum>, Fail>
     }
 }
 
-/// The array passes the tests that always run and this one, with the tables of its eigenvalues.
+/// The array passes the tests that always run and this one, with the tables and the orderings that a
+/// report has then.
 fn survives(alloc: Global, array: &Array, test: Test) -> Result<Verdict, Fail> {
     let numbers = numbers_of(alloc, array)?;
-    let spectra = spectra_of(alloc, array, &numbers)?;
+    let spectra = spectra_of(alloc, array, &numbers, test)?;
+    let p_orderings = p_orderings(alloc, &numbers)?;
+    let q_orderings = q_of(alloc, &spectra)?;
     let mut passed = FIRST_SIX.to_vec(alloc)?;
     passed.push(test)?;
     Ok(Verdict::Survivor(Survivor {
         passed: PassedTests::new(passed),
         numbers,
         spectra,
+        p_orderings,
+        q_orderings,
     }))
 }
 
@@ -126,9 +186,32 @@ fn says(
     words: &str,
     text: &str,
 ) -> Result<(), Fail> {
-    let found = verdict_words(alloc, &verdict)?;
+    has_words(rt, alloc, &verdict, words)?;
+    has_text(rt, alloc, array, &verdict, text)
+}
+
+/// Checks the words of the verdict.
+fn has_words(rt: &impl Abort, alloc: Global, verdict: &Verdict, words: &str) -> Result<(), Fail> {
+    let found = verdict_words(alloc, verdict)?;
     assert_eq!(rt; found.as_slice(), words.as_bytes(), "{words}");
+    Ok(())
+}
+
+/// The text of the report on this array with the verdict.
+fn report_of(alloc: Global, array: &Array, verdict: Verdict) -> Result<Vec<u8>, Fail> {
     let report = render(alloc, array, &verdict)?;
+    Ok(report)
+}
+
+/// Checks the text of the report on this array with the verdict.
+fn has_text(
+    rt: &impl Abort,
+    alloc: Global,
+    array: &Array,
+    verdict: &Verdict,
+    text: &str,
+) -> Result<(), Fail> {
+    let report = render(alloc, array, verdict)?;
     assert_eq!(rt; report.as_slice(), text.as_bytes(), "{text}");
     Ok(())
 }
@@ -136,13 +219,17 @@ fn says(
 #[test]
 fn a_survivor(rt: HostRuntime) -> Result<(), Fail> {
     let petersen = Array::read(b"{3,2;1,1}")?;
+    let numbers = numbers_of(rt.alloc(), &petersen)?;
+    let p_orderings = p_orderings(rt.alloc(), &numbers)?;
     let verdict = Verdict::Survivor(Survivor {
         passed: PassedTests::new(FIRST_SIX.to_vec(rt.alloc())?),
-        numbers: numbers_of(rt.alloc(), &petersen)?,
+        numbers,
         spectra: None,
+        p_orderings,
+        q_orderings: None,
     });
     let text = "verdict survivor\narray {3,2;1,1}\n\
-passed first degree order cross size intersect\nn 10\nsizes 1 3 6\n";
+passed first degree order cross size intersect\nn 10\nsizes 1 3 6\nppoly 1 2\nppoly 2 1\n";
     says(&rt, rt.alloc(), &petersen, verdict, "survivor", text)
 }
 
@@ -186,49 +273,94 @@ pending size wide k 11\n";
     let intersect = stops(alloc, &FIRST_SIX[..5], wide(Test::Intersect, node))?;
     let text = "verdict undecided\narray {3,2;1,1}\npassed first degree order cross size\n\
 pending intersect wide p 0 15 14\n";
-    says(&rt, alloc, &array, intersect, "undecided", text)
+    says(&rt, alloc, &array, intersect, "undecided", text)?;
+    let node = Node::Kprod { i: 1, j: 2, r: 0 };
+    let krein = stops(alloc, &FIRST_SIX, wide(Test::Krein, node))?;
+    let text = "verdict undecided\narray {3,2;1,1}\n\
+passed first degree order cross size intersect\npending krein wide kprod 1 2 0\n";
+    says(&rt, alloc, &array, krein, "undecided", text)
 }
 
-/// The Petersen graph over the rationals, the pentagon over √5, the octagon over √2, and the array
-/// {4,3;1,1} over √13, whose multiplicities aren't whole.
+/// The Petersen graph and the Sylvester graph over the rationals, the pentagon over √5, the octagon over
+/// √2, and the array {4,3;1,1} over √13, whose multiplicities aren't whole. The Sylvester graph has no
+/// Q-polynomial ordering.
 #[test]
 fn tables_of_survivors(rt: HostRuntime) -> Result<(), Fail> {
-    let cases: [(&[u8], Test, &str); 4] = [
+    let cases: [(&[u8], Test, &str); 6] = [
         (
             b"{3,2;1,1}",
             Test::Mult,
             "verdict survivor\narray {3,2;1,1}\n\
-passed first degree order cross size intersect mult\nn 10\nsizes 1 3 6\n\
-root 0\ntheta 3 1 -2\nP 1 3 6\nP 1 1 -2\nP 1 -2 1\n\
-Q 1 5 4\nQ 1 5/3 -8/3\nQ 1 -5/3 2/3\n",
+passed first degree order cross size intersect mult\n\
+n 10\nsizes 1 3 6\n\
+root 0\ntheta 3 1 -2\n\
+P 1 3 6\nP 1 1 -2\nP 1 -2 1\n\
+Q 1 5 4\nQ 1 5/3 -8/3\nQ 1 -5/3 2/3\n\
+ppoly 1 2\nppoly 2 1\n",
+        ),
+        (
+            b"{3;1}",
+            Test::Krein,
+            "verdict survivor\narray {3;1}\n\
+passed first degree order cross size intersect krein\n\
+n 4\nsizes 1 3\n\
+root 0\ntheta 3 -1\n\
+P 1 3\nP 1 -1\n\
+Q 1 3\nQ 1 -1\n\
+krein 1 1 3 2\n\
+ppoly 1\nqpoly 1\n",
         ),
         (
             b"{2,1;1,1}",
             Test::Krein,
             "verdict survivor\narray {2,1;1,1}\n\
-passed first degree order cross size intersect krein\nn 5\nsizes 1 2 2\n\
+passed first degree order cross size intersect krein\n\
+n 5\nsizes 1 2 2\n\
 root 5\ntheta 2 -1/2+1/2r5 -1/2-1/2r5\n\
 P 1 2 2\nP 1 -1/2+1/2r5 -1/2-1/2r5\nP 1 -1/2-1/2r5 -1/2+1/2r5\n\
-Q 1 2 2\nQ 1 -1/2+1/2r5 -1/2-1/2r5\nQ 1 -1/2-1/2r5 -1/2+1/2r5\n",
+Q 1 2 2\nQ 1 -1/2+1/2r5 -1/2-1/2r5\nQ 1 -1/2-1/2r5 -1/2+1/2r5\n\
+krein 1 1 2 0 1\nkrein 1 2 0 1 1\nkrein 2 2 2 1 0\n\
+ppoly 1 2\nppoly 2 1\nqpoly 1 2\nqpoly 2 1\n",
         ),
         (
             b"{2,1,1,1;1,1,1,2}",
             Test::Absolute,
             "verdict survivor\narray {2,1,1,1;1,1,1,2}\n\
-passed first degree order cross size intersect absolute\nn 8\nsizes 1 2 2 2 1\n\
+passed first degree order cross size intersect absolute\n\
+n 8\nsizes 1 2 2 2 1\n\
 root 2\ntheta 2 1r2 0 -1r2 -2\n\
 P 1 2 2 2 1\nP 1 1r2 0 -1r2 -1\nP 1 0 -2 0 1\nP 1 -1r2 0 1r2 -1\nP 1 -2 2 -2 1\n\
-Q 1 2 2 2 1\nQ 1 1r2 0 -1r2 -1\nQ 1 0 -2 0 1\nQ 1 -1r2 0 1r2 -1\nQ 1 -2 2 -2 1\n",
+Q 1 2 2 2 1\nQ 1 1r2 0 -1r2 -1\nQ 1 0 -2 0 1\nQ 1 -1r2 0 1r2 -1\nQ 1 -2 2 -2 1\n\
+krein 1 1 2 0 1 0 0\nkrein 1 2 0 1 0 1 0\nkrein 1 3 0 0 1 0 2\nkrein 1 4 0 0 0 1 0\n\
+krein 2 2 2 0 0 0 2\nkrein 2 3 0 1 0 1 0\nkrein 2 4 0 0 1 0 0\nkrein 3 3 2 0 1 0 0\n\
+krein 3 4 0 1 0 0 0\nkrein 4 4 1 0 0 0 0\n\
+ppoly 1 2 3 4\nppoly 3 2 1 4\nqpoly 1 2 3 4\nqpoly 3 2 1 4\n",
+        ),
+        (
+            b"{5,4,2;1,1,4}",
+            Test::Krein,
+            "verdict survivor\narray {5,4,2;1,1,4}\n\
+passed first degree order cross size intersect krein\n\
+n 36\nsizes 1 5 20 10\n\
+root 0\ntheta 5 2 -1 -3\n\
+P 1 5 20 10\nP 1 2 -1 -2\nP 1 -1 -4 4\nP 1 -3 4 -2\n\
+Q 1 16 10 9\nQ 1 32/5 -2 -27/5\nQ 1 -4/5 -2 9/5\nQ 1 -16/5 4 -9/5\n\
+krein 1 1 16 44/5 176/25 16/5\nkrein 1 2 0 22/5 16/5 32/5\nkrein 1 3 0 9/5 144/25 32/5\n\
+krein 2 2 10 2 4 2\nkrein 2 3 0 18/5 9/5 8/5\nkrein 3 3 9 18/5 36/25 0\n\
+ppoly 1 2 3\n",
         ),
         (
             b"{4,3;1,1}",
             Test::Ktriple,
             "verdict survivor\narray {4,3;1,1}\n\
-passed first degree order cross size intersect ktriple\nn 17\nsizes 1 4 12\n\
+passed first degree order cross size intersect ktriple\n\
+n 17\nsizes 1 4 12\n\
 root 13\ntheta 4 -1/2+1/2r13 -1/2-1/2r13\n\
 P 1 4 12\nP 1 -1/2+1/2r13 -1/2-1/2r13\nP 1 -1/2-1/2r13 -1/2+1/2r13\n\
-Q 1 8+4/13r13 8-4/13r13\nQ 1 -1/2+25/26r13 -1/2-25/26r13\n\
-Q 1 -1/2-9/26r13 -1/2+9/26r13\n",
+Q 1 8+4/13r13 8-4/13r13\nQ 1 -1/2+25/26r13 -1/2-25/26r13\nQ 1 -1/2-9/26r13 -1/2+9/26r13\n\
+krein 1 1 8+4/13r13 38/13+8/13r13 51/13\nkrein 1 2 0 53/13-4/13r13 53/13+4/13r13\n\
+krein 2 2 8-4/13r13 51/13 38/13-8/13r13\n\
+ppoly 1 2\nppoly 2 1\nqpoly 1 2\nqpoly 2 1\n",
         ),
     ];
     for (array, test, text) in cases {
@@ -244,9 +376,24 @@ Q 1 -1/2-9/26r13 -1/2+9/26r13\n",
 fn tables_of_diameter_twelve(rt: HostRuntime) -> Result<(), Fail> {
     let cube = Array::read(b"{12,11,10,9,8,7,6,5,4,3,2,1;1,2,3,4,5,6,7,8,9,10,11,12}")?;
     let verdict = survives(rt.alloc(), &cube, Test::Mult)?;
-    let report = render(rt.alloc(), &cube, &verdict)?;
-    let last = "\nQ 1 -12 66 -220 495 -792 924 -792 495 -220 66 -12 1\n";
-    assert_eq!(rt; report.len(), 1329);
+    let report = report_of(rt.alloc(), &cube, verdict)?;
+    let last = "\nQ 1 -12 66 -220 495 -792 924 -792 495 -220 66 -12 1\n\
+ppoly 1 2 3 4 5 6 7 8 9 10 11 12\nppoly 11 2 9 4 7 6 5 8 3 10 1 12\n";
+    assert_eq!(rt; report.len(), 1395);
+    assert!(rt; report.ends_with(last.as_bytes()));
+    Ok(())
+}
+
+/// Its Krein parameters, which are its intersection numbers, and its Q-polynomial orderings.
+#[test]
+fn parameters_of_diameter_twelve(rt: HostRuntime) -> Result<(), Fail> {
+    let cube = Array::read(b"{12,11,10,9,8,7,6,5,4,3,2,1;1,2,3,4,5,6,7,8,9,10,11,12}")?;
+    let verdict = survives(rt.alloc(), &cube, Test::Krein)?;
+    let report = report_of(rt.alloc(), &cube, verdict)?;
+    let last = "\nkrein 12 12 1 0 0 0 0 0 0 0 0 0 0 0 0\n\
+ppoly 1 2 3 4 5 6 7 8 9 10 11 12\nppoly 11 2 9 4 7 6 5 8 3 10 1 12\n\
+qpoly 1 2 3 4 5 6 7 8 9 10 11 12\nqpoly 11 2 9 4 7 6 5 8 3 10 1 12\n";
+    assert_eq!(rt; report.len(), 4604);
     assert!(rt; report.ends_with(last.as_bytes()));
     Ok(())
 }

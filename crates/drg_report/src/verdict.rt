@@ -7,7 +7,9 @@ use drg_derivation::Derivation;
 use drg_eigen::OtherSpectrum;
 use drg_fraction::{Field, Fraction};
 use drg_intersection::Numbers;
+use drg_krein::Krein;
 use drg_matrices::Frame;
+use drg_orderings::Orderings;
 use drg_quadratic::Quadratic;
 use std::alloc::AllocError;
 use std::marker::Model;
@@ -114,6 +116,8 @@ impl PendingTests {
 pub struct SpectralTables<F: Field> {
     /// The eigenvalues with the matrices P and Q.
     pub frame: Frame<F>,
+    /// The Krein parameters of the frame, where a test that ran asks for them.
+    pub krein: Option<Krein<F>>,
 }
 
 /// The tables of an array, over the field of its eigenvalues.
@@ -163,6 +167,10 @@ pub struct Survivor {
     pub numbers: Numbers,
     /// The tables that the report prints, where a test that ran asks for them.
     pub spectra: Option<Spectra>,
+    /// The P-polynomial orderings of the numbers.
+    pub p_orderings: Orderings,
+    /// The Q-polynomial orderings of the Krein parameters, where the tables have these.
+    pub q_orderings: Option<Orderings>,
 }
 
 /// What the tests found in an array.

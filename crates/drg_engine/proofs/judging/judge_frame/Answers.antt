@@ -53,3 +53,4 @@ returns c =
     let passed = subst (λ n. AreTests (RunsWithin tests n) c.pass_up_to.new.self.passed) c.in_ok-pass_up_to.ensures.decided c.in_ok-pass_up_to.ensures.course.passed in
     survivor_with c.built_law.ensures.holds a tests _ c.args.spectra c.requires.runs c.requires.none
     (c.in_default.ensures.none a c.known_valid.ensures c.requires.spectra) passed c.requires.numbers c.requires.pass refl c.requires.spectra c.requires.made
+    c.requires.parameters c.in_ok-p_orderings.ensures refl

@@ -42,4 +42,4 @@ returns c =
     let passed = subst (λ n. AreTests (RunsWithin tests n) c.pass_up_to-2.new.self.passed) c.in_ok-pass_up_to-2.ensures.decided c.in_ok-pass_up_to-2.ensures.course.passed in
     survivor_without c.built_law.ensures.holds a tests _ (λ runs. false≢true (c.if-has.ensures.runs.1 runs.1))
     (none_within a c.requires.entries c.requires.pass tests (c.in_default.ensures.none a c.known_valid.ensures c.requires.numbers))
-    passed c.requires.numbers c.requires.pass refl
+    passed c.requires.numbers c.requires.pass refl c.in_ok-p_orderings.ensures refl
