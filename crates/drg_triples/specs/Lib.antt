@@ -1,0 +1,4 @@
+pub mod LiveTypes
+pub mod Counting
+pub mod Faults
+pub mod Laws
