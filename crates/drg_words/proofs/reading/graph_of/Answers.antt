@@ -1,0 +1,10 @@
+use Rattle.clap.specs.Words.{found_of, rows_of}
+use Rattle.drg_words.proofs.Readings.{graph_file, graph_read}
+use Rattle.drg_words.proofs.Told.{if_none}
+use Rattle.drg_words.proofs.reading.graph_of.Goals as goal
+
+pub returns-in_err-file-clause-none : goal.returns-in_err-file-clause-none
+returns-in_err-file-clause-none c = if_none c.from_residual.result _ (graph_file (rows_of (found_of c.args.matches.now)) c.in_err-file.ensures)
+
+pub returns-clause-some : goal.returns-clause-some
+returns-clause-some c = graph_read (rows_of (found_of c.args.matches.now)) c.in_ok-file.file c.in_ok-file.ensures
