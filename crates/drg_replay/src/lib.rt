@@ -38,7 +38,7 @@ mod sizes;
 mod systems;
 
 pub use answer::ReplayFault;
-pub use judge::replay;
+pub use judge::{Judge, replay};
 pub use laws::{
     closed_rooms_law, graph_law, known_alone_law, known_krein_law, met_rows_law, met_sizes_law,
     rational_root_law, replayed_law, root_law, spectral_law,
