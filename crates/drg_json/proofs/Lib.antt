@@ -1,0 +1,5 @@
+pub mod Plain
+pub mod Lines
+pub mod Floats
+pub mod Members
+pub mod Steps
