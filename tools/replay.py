@@ -17,7 +17,8 @@ ends with the same number:
 
 These are written to standard output. The others go to standard error:
 
-    drg: usage                      64  no FILE, or one that begins with -
+    drg: usage                      64  no FILE, or one that begins with - and
+                                        has further bytes
     drg: bad input, line L, place 0 65  line L isn't what may stand there
     drg: input too long             66  the file has more than 67,108,864 bytes
     drg: cannot open                67
@@ -935,7 +936,7 @@ def is_name(word: str) -> bool:
         os.fsencode(word).decode("utf-8")
     except UnicodeDecodeError:
         return False
-    return not word.startswith("-")
+    return word == "-" or not word.startswith("-")
 
 
 def write(answer: Answer) -> int:

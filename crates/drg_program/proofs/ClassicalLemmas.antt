@@ -5,7 +5,7 @@ use Rattle.drg_census.specs.declared.bases.ClassicalRow.{ClassicalRow}
 use Rattle.drg_census.specs.declared.bases.ClassicalRow.TheVariants.{Holds, Wide}
 use Rattle.drg_program.specs.Classical.{IsShort, TellsRows, rows_status}
 use Rattle.drg_program.specs.Run.{IsAnswerOf}
-use Rattle.drg_program.specs.declared.command.Command.TheVariants.{Classical}
+use Rattle.drg_words.specs.declared.command.Command.TheVariants.{Classical}
 use Rattle.drg_program.specs.declared.status.Status.{Status}
 
 -- pieces that were appended one after the other

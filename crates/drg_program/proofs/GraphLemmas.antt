@@ -7,7 +7,7 @@ use Rattle.drg_edges.specs.declared.answer.GraphAnswer.TheVariants.{Array, Singl
 use Rattle.drg_edges.specs.declared.fault.GraphFault.TheVariants.{Bad, Memory}
 use Rattle.drg_program.specs.Graph.{IsFaultInEdges, graph_status}
 use Rattle.drg_program.specs.Run.{IsAnswerOf}
-use Rattle.drg_program.specs.declared.command.Command.TheVariants.{Graph}
+use Rattle.drg_words.specs.declared.command.Command.TheVariants.{Graph}
 use Rattle.drg_program.specs.declared.status.Status.{Status}
 
 not_memory : (line : ℕ) → Bad line ≢ Memory

@@ -42,6 +42,11 @@ some_bytes (Some files) name = found (content_of name files) refl where
   found None none = ([], λ told is. absurd (none≢some told (sym none ∙ is)))
   found (Some bytes) is = (bytes, same_content files name bytes is)
 
+-- and bytes that are the input
+pub some_input : (files : Option (List File)) (file : Option (List ℕ)) → (bytes : List ℕ) × AreInputOf files file bytes
+some_input files None = ([], refl)
+some_input files (Some name) = some_bytes files name
+
 longer : (bytes taken : List ℕ) (new : Option (List ℕ)) (limit : ℕ) → Consumes (Some bytes) new taken → length taken ≡ limit + 1 → limit < length bytes
 longer bytes taken None limit consumed sized = absurd consumed
 longer bytes taken (Some rest) limit consumed sized =

@@ -5,7 +5,7 @@ use Rattle.std.specs.declared.alloc.Global.{Global}
 use Rattle.drg_outside.specs.Files.{File}
 use Rattle.drg_program.specs.Input.{HasCauses, IsWithinLimit}
 use Rattle.drg_program.specs.Run.{Ends, Finds}
-use Rattle.drg_program.specs.declared.command.Command.{Command}
+use Rattle.drg_words.specs.declared.command.Command.{Command}
 use Rattle.drg_program.specs.declared.output.Output.{Output}
 use Rattle.drg_program.specs.declared.output.EarlyRefusal.{EarlyRefusal}
 use Rattle.drg_program.specs.declared.output.EarlyRefusal.TheVariants.{BadInput, TooLong, OpenFault, ReadFault, Memory}

@@ -1,5 +1,5 @@
 -- From the parts of an answer to the whole.
-use Rattle.std.proofs.Common.{◌≡◌, ◌≢◌, ℕ, List, Option, Result, Ok, Err, refl, sym, subst, arith}
+use Rattle.std.proofs.Common.{◌≡◌, ◌≢◌, ℕ, Bool, List, Option, Result, Ok, Err, refl, sym, subst, arith}
 use Rattle.std.specs.Io.KnownBytes.{Appends}
 use Rattle.drg_array.specs.declared.test.Test.{Test}
 use Rattle.drg_array.specs.declared.claim.Claim.{Claim}
@@ -14,18 +14,18 @@ use Rattle.drg_program.specs.Input.{IsWithinLimit}
 use Rattle.drg_program.specs.Replay.{Tells}
 use Rattle.drg_program.specs.Run.{Answers, Decides, IsAnswerOf, IsBadAt, IsInGrammar, IsOutput}
 use Rattle.drg_program.specs.Statuses.{IsEarly, IsRefusal}
-use Rattle.drg_program.specs.declared.command.Command.{Command}
-use Rattle.drg_program.specs.declared.command.Command.TheVariants.{Check, Replay, Graph, Census, Classical}
 use Rattle.drg_program.specs.declared.status.Status.{Status}
 use Rattle.drg_program.specs.declared.status.Status.TheVariants.{Usage, BadInput, TooLong, OpenFault, ReadFault, WriteFault, Memory}
+use Rattle.drg_words.specs.declared.command.Command.{Command}
+use Rattle.drg_words.specs.declared.command.Command.TheVariants.{Check, Replay, Table, Sample, Graph, Census, Classical}
 use Rattle.drg_program.proofs.ClassicalLemmas as classical
 use Rattle.drg_program.proofs.GraphLemmas as graph
 
-judged : (v : Verdict) (tests : List Test) (file : List ℕ) → IsAnswerOf (status_of v) (Check tests file)
-judged (verdict.Infeasible found) tests file = tt
-judged (verdict.Undecided found) tests file = tt
-judged (verdict.RefusedSpectrum found) tests file = tt
-judged (verdict.Survivor found) tests file = tt
+judged : (v : Verdict) (tests : List Test) (budget : ℕ) (json : Bool) (file : List ℕ) → IsAnswerOf (status_of v) (Check tests budget json file)
+judged (verdict.Infeasible found) tests budget json file = tt
+judged (verdict.Undecided found) tests budget json file = tt
+judged (verdict.RefusedSpectrum found) tests budget json file = tt
+judged (verdict.Survivor found) tests budget json file = tt
 
 told : (claim : Claim) (answer : Result Class ReplayFault) (status : Status) (text file : List ℕ) → Tells claim answer status text → IsAnswerOf status (Replay file)
 told claim (Ok class) status text file h = rw h.0 tt
@@ -36,8 +36,11 @@ told claim (Err fault.Memory) status text file h = absurd h
 
 -- the status of what is written is an answer of the command
 is_answer : (command : Command) (bytes : List ℕ) (status : Status) (text : List ℕ) → IsOutput command bytes status text → IsAnswerOf status command
-is_answer (Check tests file) bytes status text h = subst (λ (s : Status). IsAnswerOf s (Check tests file)) (sym h.told) (judged h.verdict tests file)
+is_answer (Check tests budget json file) bytes status text h =
+    subst (λ (s : Status). IsAnswerOf s (Check tests budget json file)) (sym h.told) (judged h.verdict tests budget json file)
 is_answer (Replay file) bytes status text h = told h.derivation.claim (answer_of h.derivation) status text file h.concludes.tells
+is_answer (Table tests budget file) bytes status text h = absurd h
+is_answer (Sample seed count) bytes status text h = absurd h
 is_answer (Graph file) bytes status text h = graph.told h.answer status file h.told
 is_answer (Census d k n) bytes status text h = rw h.told tt
 is_answer (Classical file) bytes status text h = classical.told h.array status text file h.tells
@@ -79,15 +82,19 @@ whole command bytes Memory text old new short output appended = absurd (is_answe
 whole command bytes status text old new short output appended = (short, (text, output, appended))
 
 in_grammar : (command : Command) (bytes : List ℕ) (status : Status) (text : List ℕ) → IsOutput command bytes status text → IsInGrammar command bytes
-in_grammar (Check tests file) bytes status text h = (h.array, h.read)
+in_grammar (Check tests budget json file) bytes status text h = (h.array, h.read)
 in_grammar (Replay file) bytes status text h = (h.n, h.derivation, h.begins)
+in_grammar (Table tests budget file) bytes status text h = absurd h
+in_grammar (Sample seed count) bytes status text h = absurd h
 in_grammar (Graph file) bytes status text h = (h.graph, h.read)
 in_grammar (Census d k n) bytes status text h = tt
 in_grammar (Classical file) bytes status text h = (h.array, h.read)
 
 not_in_grammar : (command : Command) (bytes : List ℕ) (line at : ℕ) → IsBadAt command bytes line at → IsInGrammar command bytes → ⊥
-not_in_grammar (Check tests file) bytes line at (one, (none, kind, fault)) (a, is) = none a is
+not_in_grammar (Check tests budget json file) bytes line at (one, (none, kind, fault)) (a, is) = none a is
 not_in_grammar (Replay file) bytes line at (zero, (none, refused)) (n, δ, begins) = none n δ begins
+not_in_grammar (Table tests budget file) bytes line at bad good = absurd bad
+not_in_grammar (Sample seed count) bytes line at bad good = absurd bad
 not_in_grammar (Graph file) bytes line at (zero, (none, fault)) (g, read) = none (g, read)
 not_in_grammar (Census d k n) bytes line at bad good = absurd bad
 not_in_grammar (Classical file) bytes line at (one, (none, kind, fault)) (a, is) = none a is

@@ -1,11 +1,12 @@
 -- What `check` finds in an array.
-use Rattle.std.specs.Prelude.{◌≡◌, ℕ, List, if◌then◌else◌, ◌==◌, ◌&&◌, ◌-◌, ⊤, nat_lt, length, take, slice_index}
+use Rattle.std.specs.Prelude.{◌≡◌, ℕ, Bool, true, false, List, if◌then◌else◌, ◌==◌, ◌&&◌, ◌-◌, ⊤, nat_lt, length, take, slice_index}
 use Rattle.drg_array.specs.Entries.{Entries}
 use Rattle.drg_array.specs.Text.{IsArrayText}
 use Rattle.drg_array.specs.Faults.{IsFault}
 use Rattle.drg_array.specs.declared.fault.ArrayKind.{ArrayKind}
 use Rattle.drg_array.specs.declared.test.Test.{Test}
 use Rattle.drg_derivation.specs.Text.{IsDerivationText, derivation_text}
+use Rattle.drg_json.specs.Reports.{json_text}
 use Rattle.drg_report.specs.Texts.{report_text}
 use Rattle.drg_report.specs.declared.verdict.Verdict.{Verdict}
 use Rattle.drg_report.specs.declared.verdict.Verdict.TheVariants as verdict
@@ -60,11 +61,16 @@ status_of (verdict.Undecided found) = Undecided
 status_of (verdict.RefusedSpectrum found) = RefusedSpectrum
 status_of (verdict.Survivor found) = Survivor
 
--- The bytes are the text of an array. It is judged, and this is the status of the verdict and the text of its report.
-pub record Checks (bytes : List ℕ) (tests : List Test) (status : Status) (text : List ℕ) : Type 0 where
+-- the report on the array with this verdict, as JSON or as lines of text
+abbrev pub report_of : Bool → Entries → Verdict → List ℕ
+report_of true a verdict = json_text a verdict
+report_of false a verdict = report_text a verdict
+
+-- The bytes are the text of an array. It is judged, and this is the status of the verdict and its report, as JSON or as text.
+pub record Checks (bytes : List ℕ) (tests : List Test) (json : Bool) (status : Status) (text : List ℕ) : Type 0 where
   pub array : Entries
   pub read : IsArrayOf bytes array
   pub verdict : Verdict
   pub judged : IsJudged array tests verdict
   pub told : status ≡ status_of verdict
-  pub written : text ≡ report_text array verdict
+  pub written : text ≡ report_of json array verdict

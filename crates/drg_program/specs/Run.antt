@@ -12,44 +12,50 @@ use Rattle.drg_program.specs.Graph.{AnswersGraph, IsFaultInEdges, ListsEdges}
 use Rattle.drg_program.specs.Input.{IsTooLong, IsWithinLimit}
 use Rattle.drg_program.specs.Replay.{IsFaultInLine, Replays}
 use Rattle.drg_program.specs.Words.{file_of}
-use Rattle.drg_program.specs.declared.command.Command.{Command}
-use Rattle.drg_program.specs.declared.command.Command.TheVariants.{Check, Replay, Graph, Census, Classical}
 use Rattle.drg_program.specs.declared.output.Output.{Output}
 use Rattle.drg_program.specs.declared.output.EarlyRefusal.{EarlyRefusal}
 use Rattle.drg_program.specs.declared.output.EarlyRefusal.TheVariants as refusal
 use Rattle.drg_program.specs.declared.status.Status.{Status}
+use Rattle.drg_words.specs.declared.command.Command.{Command}
+use Rattle.drg_words.specs.declared.command.Command.TheVariants.{Check, Replay, Table, Sample, Graph, Census, Classical}
 use Rattle.drg_program.specs.declared.status.Status.TheVariants.{Survivor, Infeasible, RefusedSpectrum, Undecided, Accepted, Rejected, Done, Usage, BadInput, TooLong, OpenFault, ReadFault, WriteFault, Memory}
 
 -- the bytes are in the grammar of the command's input
 abbrev pub IsInGrammar : Command → List ℕ → Type 0
-IsInGrammar (Check tests file) bytes = (a : Entries) × IsArrayOf bytes a
+IsInGrammar (Check tests budget json file) bytes = (a : Entries) × IsArrayOf bytes a
 IsInGrammar (Replay file) bytes = (n : ℕ) × (δ : Content) × Begins bytes n δ
+IsInGrammar (Table tests budget file) bytes = ⊥
+IsInGrammar (Sample seed count) bytes = ⊥
 IsInGrammar (Graph file) bytes = ListsEdges bytes
 IsInGrammar (Census d k n) bytes = ⊤
 IsInGrammar (Classical file) bytes = (a : Entries) × IsArrayOf bytes a
 
 -- the bytes aren't in that grammar, and the first fault is in this line and place, where place 0 is the whole line
 abbrev pub IsBadAt : Command → List ℕ → ℕ → ℕ → Type 0
-IsBadAt (Check tests file) bytes line at = (line ≡ 1) × IsFaultAt bytes at
+IsBadAt (Check tests budget json file) bytes line at = (line ≡ 1) × IsFaultAt bytes at
 IsBadAt (Replay file) bytes line at = (at ≡ 0) × IsFaultInLine bytes line
+IsBadAt (Table tests budget file) bytes line at = ⊥
+IsBadAt (Sample seed count) bytes line at = ⊥
 IsBadAt (Graph file) bytes line at = (at ≡ 0) × IsFaultInEdges bytes line
 IsBadAt (Census d k n) bytes line at = ⊥
 IsBadAt (Classical file) bytes line at = (line ≡ 1) × IsFaultAt bytes at
 
 -- the status of these bytes, and the text that is written
 abbrev pub IsOutput : Command → List ℕ → Status → List ℕ → Type 0
-IsOutput (Check tests file) bytes status text = Checks bytes tests status text
+IsOutput (Check tests budget json file) bytes status text = Checks bytes tests json status text
 IsOutput (Replay file) bytes status text = Replays bytes status text
+IsOutput (Table tests budget file) bytes status text = ⊥
+IsOutput (Sample seed count) bytes status text = ⊥
 IsOutput (Graph file) bytes status text = AnswersGraph bytes status text
 IsOutput (Census d k n) bytes status text = AnswersCensus d k n status text
 IsOutput (Classical file) bytes status text = AnswersClassical bytes status text
 
 -- the status is an answer of the command, and no refusal
 abbrev pub IsAnswerOf : Status → Command → Type 0
-IsAnswerOf Survivor (Check tests file) = ⊤
-IsAnswerOf Infeasible (Check tests file) = ⊤
-IsAnswerOf RefusedSpectrum (Check tests file) = ⊤
-IsAnswerOf Undecided (Check tests file) = ⊤
+IsAnswerOf Survivor (Check tests budget json file) = ⊤
+IsAnswerOf Infeasible (Check tests budget json file) = ⊤
+IsAnswerOf RefusedSpectrum (Check tests budget json file) = ⊤
+IsAnswerOf Undecided (Check tests budget json file) = ⊤
 IsAnswerOf Accepted (Replay file) = ⊤
 IsAnswerOf Rejected (Replay file) = ⊤
 IsAnswerOf Undecided (Replay file) = ⊤

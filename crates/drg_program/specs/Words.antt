@@ -1,56 +1,34 @@
--- Which words are a command, with which options and on which file.
-use Rattle.std.specs.Prelude.{◌≡◌, ◌≢◌, ◌⊎◌, ℕ, List, [], ◌∷◌, Option, Some, map, codes, decimal, slice_index, string_bytes, None, ⊤}
-use Rattle.std.specs.declared.alloc.Global.{Global}
-use Rattle.std.specs.declared.string.String.{String}
-use Rattle.drg_array.specs.TestLists.{IsTestList}
-use Rattle.drg_array.specs.declared.test.Test.{Test}
-use Rattle.drg_array.specs.declared.test_set.TheConstants.{BUILT}
-use Rattle.drg_census.specs.Census.{IsWithinLimits}
-use Rattle.drg_program.specs.declared.command.Command.{Command}
-use Rattle.drg_program.specs.declared.command.Command.TheVariants.{Check, Replay, Graph, Census, Classical}
+-- Which words ask a run for a command, and which file the command reads.
+use Rattle.std.specs.Prelude.{⊤, ℕ, List, Option, Some, None}
+use Rattle.drg_words.specs.Commands.{AreWordsOf}
+use Rattle.drg_words.specs.Grammar.{Word}
+use Rattle.drg_words.specs.declared.command.Command.{Command}
+use Rattle.drg_words.specs.declared.command.Command.TheVariants.{Check, Replay, Table, Sample, Graph, Census, Classical}
 
--- the bytes of each word
-abbrev pub words_of : List (String Global) → List (List ℕ)
-words_of words = map string_bytes words
+-- A run carries the command out: each one but `table` and `sample`, whose words are refused.
+abbrev pub IsCarriedOut : Command → Type 0
+IsCarriedOut (Table tests budget file) = ⊥
+IsCarriedOut (Sample seed count) = ⊥
+IsCarriedOut command = ⊤
 
--- the name of a file doesn't begin with `-`
-abbrev pub IsFileName : List ℕ → Type 0
-IsFileName word = slice_index word 0 ≢ 45
+-- These are exactly the words of the command, with its options, its numbers and its file, and a run carries it out.
+abbrev pub Asks : List Word → Command → Type 0
+Asks words command = AreWordsOf command words × IsCarriedOut command
 
--- `check FILE` selects all built tests
-abbrev pub IsWholeCheck : List Test → List ℕ → List (List ℕ) → Type 0
-IsWholeCheck tests file words = (words ≡ codes "check" ∷ file ∷ []) × (tests ≡ BUILT)
+-- The words ask for some command.
+abbrev pub IsAsked : List Word → Type 0
+IsAsked words = (command : Command) × Asks words command
 
--- `check --tests LIST FILE` selects the tests of the list
-abbrev pub IsListedCheck : List Test → List ℕ → List (List ℕ) → Type 0
-IsListedCheck tests file words =
-    (list : List ℕ) × (words ≡ codes "check" ∷ codes "--tests" ∷ list ∷ file ∷ []) × IsTestList list tests
+-- Some words ask for the command.
+abbrev pub HasWords : Command → Type 0
+HasWords command = (words : List Word) × Asks words command
 
--- these are exactly the words of the command, with its options and its file
-abbrev pub AreWordsOf : Command → List (List ℕ) → Type 0
-AreWordsOf (Check tests file) words = IsFileName file × (IsWholeCheck tests file words ⊎ IsListedCheck tests file words)
-AreWordsOf (Replay file) words = IsFileName file × (words ≡ codes "replay" ∷ file ∷ [])
-AreWordsOf (Graph file) words = IsFileName file × (words ≡ codes "graph" ∷ file ∷ [])
-AreWordsOf (Census d k n) words = IsWithinLimits d k n × (words ≡ codes "census" ∷ decimal d ∷ decimal k ∷ decimal n ∷ [])
-AreWordsOf (Classical file) words = IsFileName file × (words ≡ codes "classical" ∷ file ∷ [])
-
--- the numbers of a census are within its limits
-abbrev pub HasLimits : Command → Type 0
-HasLimits (Census d k n) = IsWithinLimits d k n
-HasLimits command = ⊤
-
--- the words are those of a command
-abbrev pub IsCommand : List (List ℕ) → Type 0
-IsCommand words = (command : Command) × AreWordsOf command words
-
--- the file that the command reads, where it reads one
+-- The file that the command reads, where it reads one.
 abbrev pub file_of : Command → Option (List ℕ)
-file_of (Check tests file) = Some file
+file_of (Check tests budget json file) = Some file
 file_of (Replay file) = Some file
+file_of (Table tests budget file) = Some file
+file_of (Sample seed count) = None
 file_of (Graph file) = Some file
 file_of (Census d k n) = None
 file_of (Classical file) = Some file
-
--- the words are those of one command, with one list of tests, on one file
-abbrev pub OneCommand : Type 0
-OneCommand = (words : List (List ℕ)) (command other : Command) → AreWordsOf command words → AreWordsOf other words → command ≡ other

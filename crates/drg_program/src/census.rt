@@ -3,7 +3,7 @@ ghost use Rattle.drg_array.specs.Text.{array_text};
 ghost use Rattle.drg_census.specs.Census.{IsWithinLimits};
 ghost use Rattle.drg_program.specs.Census.{census_text as the_census_text};
 ghost use Rattle.drg_program.specs.Run.{Finds};
-ghost use Rattle.drg_program.specs.declared.command.Command.TheVariants.{Census as CensusCommand};
+ghost use Rattle.drg_words.specs.declared.command.Command.TheVariants.{Census as CensusCommand};
 
 use crate::Status;
 use crate::output::{EarlyRefusal, Output};

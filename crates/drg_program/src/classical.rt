@@ -4,17 +4,17 @@ ghost use Rattle.drg_census.specs.declared.bases.ClassicalRow.TheVariants.{Holds
 ghost use Rattle.drg_program.specs.Classical.{parameter_text, row_text, rows_status as the_rows_status, rows_text as the_rows_text};
 ghost use Rattle.drg_program.specs.Input.{AreBytesOf, HasCauses};
 ghost use Rattle.drg_program.specs.Run.{Ends, Finds};
-ghost use Rattle.drg_program.specs.declared.command.Command.TheVariants.{Classical as ClassicalCommand};
+ghost use Rattle.drg_words.specs.declared.command.Command.TheVariants.{Classical as ClassicalCommand};
 
 use crate::Status;
 use crate::check::without_end;
-use crate::command::FileName;
 use crate::input::read_input;
 use crate::output::{EarlyRefusal, Output};
 use drg_array::Array;
 use drg_census::{ClassicalRow, classical};
 use drg_fraction::Fraction;
 use drg_outside::Inputs;
+use drg_words::FileName;
 use itoa::Buffer;
 use std::alloc::{AllocError, Global};
 

@@ -2,15 +2,15 @@ ghost use Rattle.std.specs.Prelude.{◌≡◌, ℕ, List, Some, IfOk};
 ghost use Rattle.drg_program.specs.Graph.{IsRightAnswer, graph_status};
 ghost use Rattle.drg_program.specs.Input.{AreBytesOf, HasCauses};
 ghost use Rattle.drg_program.specs.Run.{Ends, Finds};
-ghost use Rattle.drg_program.specs.declared.command.Command.TheVariants.{Graph as GraphCommand};
+ghost use Rattle.drg_words.specs.declared.command.Command.TheVariants.{Graph as GraphCommand};
 
 use crate::Status;
-use crate::command::FileName;
 use crate::graph_text::graph_line;
 use crate::input::read_input;
 use crate::output::{EarlyRefusal, Output};
 use drg_edges::{Graph, GraphAnswer, GraphFault, answer_law, array_of, edge_text_law, read_graph};
 use drg_outside::Inputs;
+use drg_words::FileName;
 use std::alloc::{AllocError, Global};
 
 /// Answers on the graph whose edges the file lists.

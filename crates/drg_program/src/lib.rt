@@ -2,48 +2,50 @@
 //!
 //! [`run`] reads the words of a command and its file, and writes what the command finds. Its contract
 //! says what each [`Status`] means of the input, when each refusal comes, and which bytes were written.
-//! The words stand in `specs/Words.antt`, the input and why it can't be had in `specs/Input.antt`, what
-//! `check` finds of an array in `specs/Check.antt`, what `replay` finds of a derivation in
-//! `specs/Replay.antt` with its line in `specs/AnswerText.antt`, what `graph` finds of a graph in
-//! `specs/Graph.antt` with its line in `specs/GraphText.antt`, what `census` finds in `specs/Census.antt`,
-//! what `classical` finds in `specs/Classical.antt`, and how these make the answer of a run in
-//! `specs/Run.antt`. The verdicts on an array and their texts are those of `drg_engine` and `drg_report`,
-//! and the answers on a graph are those of `drg_edges`.
+//! The words that ask for a command stand in `specs/Words.antt`, the input and why it can't be had in
+//! `specs/Input.antt`, what `check` finds of an array in `specs/Check.antt`, what `replay` finds of a
+//! derivation in `specs/Replay.antt` with its line in `specs/AnswerText.antt`, what `graph` finds of a
+//! graph in `specs/Graph.antt` with its line in `specs/GraphText.antt`, what `census` finds in
+//! `specs/Census.antt`, what `classical` finds in `specs/Classical.antt`, and how these make the answer of
+//! a run in `specs/Run.antt`. The verdicts on an array are those of `drg_engine`, their texts those of
+//! `drg_report` and `drg_json`, and the answers on a graph those of `drg_edges`.
 //!
-//! A command is one variant of `Command`, with its options and its file, and one case in each definition
-//! by commands. It reads its file itself, whole or in pieces, and ends with an output or a refusal.
+//! A command is one variant of `Command` in `drg_words`, which reads the words, and one case in each
+//! definition by commands. It reads its file itself, whole or in pieces, and ends with an output or a
+//! refusal.
 #![tactic(auto)]
 
 mod answer_text;
 mod census;
 mod check;
 mod classical;
-mod command;
 mod graph;
 mod graph_text;
 mod input;
 mod output;
 mod replay;
 mod status;
+mod words;
 
 ghost use Rattle.std.specs.Prelude.{◌≡◌, ◌≢◌, ◌≤◌, ◌⊎◌, ◌↔◌, ℕ, List};
 ghost use Rattle.drg_outside.specs.Causes.{Rose};
 ghost use Rattle.drg_program.specs.Input.{AreInputOf, HasCauses, IsFileMissing, IsToldInput};
 ghost use Rattle.drg_program.specs.Run.{Answers, Decides, Ends, ReadsFile};
 ghost use Rattle.drg_program.specs.Statuses.{IsEarly};
-ghost use Rattle.drg_program.specs.Words.{AreWordsOf, HasLimits, IsCommand, file_of, words_of};
+ghost use Rattle.drg_program.specs.Words.{Asks, HasWords, IsAsked, file_of};
+ghost use Rattle.drg_words.specs.Commands.{words_of};
 
 use census::arrays_of;
 use check::check;
 use classical::classical_file;
-pub use command::words_law;
-use command::{Command, command_of};
 use drg_outside::{Inputs, Sink, write_all};
+use drg_words::{Command, WordsFault, words_law};
 use graph::graph_file;
 use output::{EarlyRefusal, Output};
 use replay::replay_file;
 pub use status::Status;
 use std::alloc::Global;
+use words::asked;
 
 /// The longest input in bytes: 64 MiB.
 pub const INPUT_LIMIT: usize = 67_108_864;
@@ -53,7 +55,8 @@ pub const INPUT_LIMIT: usize = 67_108_864;
 /// The clause `answer` says what the status and the written bytes mean.
 ///
 /// After `check` they are those of a right verdict on the array of the input, by the tests that always run
-/// and those that are selected. `infeasible` says that the array fails the claim that is written and no
+/// and those that are selected. The report is one of lines, or JSON where the words ask for it; a budget of
+/// branches changes nothing, since no test that is built opens branches. `infeasible` says that the array fails the claim that is written and no
 /// claim of its test before it, and that the derivation that is written is accepted with its class. Where
 /// the class is counting, no finite graph is distance-regular with the array; where it is spectral, the
 /// eigenvalues and matrices that are written are those of the array, and that graphs meet the condition
@@ -77,21 +80,21 @@ pub fn run<I: Inputs, K: Sink>(
     inputs: &mut I,
     sink: &mut K,
 ) -> Status
-    // Where memory suffices, exactly other words than those of a command are refused as such. Nothing is
-    // opened but for a command that reads a file.
+    // Where memory suffices, exactly words that ask for no command are refused as such. Nothing is opened
+    // but for a command that reads a file.
     ensures usage { result ≢ Status.Memory
-        → ((result ≡ Status.Usage) ↔ (IsCommand (words_of words.now) → ⊥)) }
+        → ((result ≡ Status.Usage) ↔ (IsAsked (words_of words.now) → ⊥)) }
     ensures command { result ≢ Status.Memory → result ≢ Status.Usage
-        → IsCommand (words_of words.now) }
-    ensures unopened { ((command : Command) → AreWordsOf command (words_of words.now)
+        → IsAsked (words_of words.now) }
+    ensures unopened { ((command : Command) → Asks (words_of words.now) command
         → ReadsFile command → ⊥) → inputs.new ≡ inputs.old }
 
     // Each fault has its cause, and no count of faults falls.
     ensures open { result ≡ Status.OpenFault
         → Rose (I.open_faults inputs.old) (I.open_faults inputs.new)
-        ⊎ ((command : Command) × AreWordsOf command (words_of words.now)
+        ⊎ ((command : Command) × Asks (words_of words.now) command
         × IsFileMissing (I.files inputs.old) (file_of command)) }
-    ensures missing { (command : Command) → AreWordsOf command (words_of words.now)
+    ensures missing { (command : Command) → Asks (words_of words.now) command
         → IsFileMissing (I.files inputs.old) (file_of command)
         → (result ≡ Status.OpenFault) ⊎ (result ≡ Status.Memory) }
     ensures read { result ≡ Status.ReadFault
@@ -107,22 +110,24 @@ pub fn run<I: Inputs, K: Sink>(
 
     // What the status says of the bytes of the input, and of what was written. Where the files are
     // told, the bytes are those of the file; a command that reads no file has none.
-    ensures answer { (command : Command) → AreWordsOf command (words_of words.now)
+    ensures answer { (command : Command) → Asks (words_of words.now) command
         → (bytes : List ℕ) × AreInputOf (I.files inputs.old) (file_of command) bytes
         × Answers command bytes result (K.bytes sink.old) (K.bytes sink.new) }
 
     // Where the bytes are told and no count rose, they decide the status, up to want of memory.
     ensures complete { (command : Command) (bytes : List ℕ)
-        → AreWordsOf command (words_of words.now)
+        → Asks (words_of words.now) command
         → IsToldInput (I.files inputs.old) (file_of command) bytes
         → (Rose (I.open_faults inputs.old) (I.open_faults inputs.new) → ⊥)
         → (Rose (I.read_faults inputs.old) (I.read_faults inputs.new) → ⊥)
         → (Rose (K.faults sink.old) (K.faults sink.new) → ⊥)
         → result ≢ Status.Memory → Decides command bytes result }
 {
-    match command_of(words) {
-        Some(command) => carry_out(alloc, &command, inputs, sink),
-        None => Status::Usage,
+    words_law();
+    match asked(alloc, words) {
+        Ok(command) => carry_out(alloc, &command, inputs, sink),
+        Err(WordsFault::Usage) => Status::Usage,
+        Err(WordsFault::Memory) => Status::Memory,
     }
 }
 
@@ -133,7 +138,7 @@ fn carry_out<I: Inputs, K: Sink>(
     inputs: &mut I,
     sink: &mut K,
 ) -> Status
-    requires { HasLimits command.now }
+    requires { HasWords command.now }
     ensures usage { result ≢ Status.Usage }
     ensures unopened { (ReadsFile command.now → ⊥) → inputs.new ≡ inputs.old }
     ensures open { result ≡ Status.OpenFault
@@ -172,7 +177,7 @@ fn output_of<I: Inputs>(
     command: &Command<'_>,
     inputs: &mut I,
 ) -> Result<Output, EarlyRefusal>
-    requires { HasLimits command.now }
+    requires { HasWords command.now }
     ensures output { (bytes : List ℕ)
         × AreInputOf (I.files inputs.old) (file_of command.now) bytes
         × Ends command.now bytes result }
@@ -183,8 +188,15 @@ fn output_of<I: Inputs>(
     ensures same_files { I.files inputs.new ≡ I.files inputs.old }
 {
     match command {
-        Command::Check { tests, file } => check(alloc, inputs, file, tests),
+        Command::Check {
+            tests,
+            budget: _,
+            json,
+            file,
+        } => check(alloc, inputs, file, tests, *json),
         Command::Replay { file } => replay_file(alloc, inputs, file),
+        // No words ask for these.
+        Command::Table { .. } | Command::Sample { .. } => unreachable!(),
         Command::Graph { file } => graph_file(alloc, inputs, file),
         Command::Census { d, k, n } => arrays_of(alloc, *d, *k, *n),
         Command::Classical { file } => classical_file(alloc, inputs, file),
@@ -199,3 +211,5 @@ mod graph_tests;
 mod tests;
 #[cfg(test)]
 mod triple_tests;
+#[cfg(test)]
+mod word_tests;

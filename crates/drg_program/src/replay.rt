@@ -2,17 +2,17 @@ ghost use Rattle.std.specs.Prelude.{◌≡◌, ℕ, List, Some, IfOk};
 ghost use Rattle.drg_program.specs.Input.{AreBytesOf, HasCauses};
 ghost use Rattle.drg_program.specs.Replay.{Concludes, Tells};
 ghost use Rattle.drg_program.specs.Run.{Ends, Finds};
-ghost use Rattle.drg_program.specs.declared.command.Command.TheVariants.{Replay};
+ghost use Rattle.drg_words.specs.declared.command.Command.TheVariants.{Replay};
 
 use crate::Status;
 use crate::answer_text::{write_accepted, write_open, write_rejected, write_wide};
-use crate::command::FileName;
 use crate::input::read_input;
 use crate::output::{EarlyRefusal, Output};
 use drg_array::{Claim, Class};
 use drg_derivation::{Derivation, DerivationFault, read, refusal_law};
 use drg_outside::Inputs;
 use drg_replay::{ReplayFault, replay};
+use drg_words::FileName;
 use std::alloc::{AllocError, Global};
 
 /// Answers the derivation at the front of the file.

@@ -7,7 +7,7 @@ use std::test::Fail;
 const ROOM: usize = 1000;
 
 /// The report of the Petersen graph's array.
-const PETERSEN: &str =
+pub const PETERSEN: &str =
     "verdict survivor\narray {3,2;1,1}\npassed first degree order cross size intersect handshake induced triangles mult\nn 10\nsizes 1 3 6\nroot 0\ntheta 3 1 -2\nP 1 3 6\nP 1 1 -2\nP 1 -2 1\nQ 1 5 4\nQ 1 5/3 -8/3\nQ 1 -5/3 2/3\nppoly 1 2\nppoly 2 1\n";
 
 /// The report of `{3,2;1,2}`: 7 vertices with 3 neighbours each.
@@ -382,26 +382,42 @@ fn calls_that_fail(rt: HostRuntime) -> Result<(), Fail> {
 #[test]
 fn words_that_are_no_command(rt: HostRuntime) -> Result<(), Fail> {
     let alloc = rt.alloc();
-    let cases: [&[&str]; 33] = [
+    let cases: [&[&str]; 49] = [
         &[],
         &[""],
+        &["--"],
+        &["--", "check", "f"],
         &["check"],
         &["chekc", "f"],
         &["Check", "f"],
         &["check", "-x"],
-        &["check", "-"],
+        &["check", "--"],
         &["check", "f", "f"],
-        &["check", "--json", "f"],
+        &["check", "-h"],
+        &["check", "--help"],
+        &["check", "--json"],
+        &["check", "--json", "--json", "f"],
+        &["check", "--json=x", "f"],
+        &["check", "--jso", "f"],
+        &["check", "--", "--json", "f"],
+        &["check", "--budget", "0", "f"],
+        &["check", "--budget", "100001", "f"],
+        &["check", "--budget", "01", "f"],
+        &["check", "--budget=-1", "f"],
+        &["check", "--budget", "f"],
         &["check", "--tests", "handshake"],
         &["check", "--tests", "handshake,handshake", "f"],
         &["check", "--tests", "krein", "f"],
         &["check", "--tests", "", "f"],
-        &["check", "f", "--tests", "none"],
+        &["check", "--tests=", "f"],
+        &["check", "--tests", "first", "f"],
+        &["check", "--tests", "none", "--tests", "none", "f"],
         &["check", "--tests", "none", "-f"],
         &["replay"],
         &["replay", "-x"],
         &["replay", "f", "f"],
         &["replay", "--tests", "none", "f"],
+        &["replay", "--json", "f"],
         &["Replay", "f"],
         &["graph"],
         &["graph", "-x"],

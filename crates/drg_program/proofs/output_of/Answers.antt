@@ -1,17 +1,19 @@
 use Rattle.std.proofs.Common.{ℕ, List, [], refl, sym, subst}
 use Rattle.drg_program.specs.Input.{AreInputOf, HasCauses}
 use Rattle.drg_program.specs.Run.{Ends}
-use Rattle.drg_program.specs.Words.{file_of}
-use Rattle.drg_program.specs.declared.command.Command.{Command}
-use Rattle.drg_program.specs.declared.command.Command.TheVariants.{Census}
+use Rattle.drg_program.specs.Words.{HasWords, file_of}
+use Rattle.drg_words.specs.declared.command.Command.{Command}
+use Rattle.drg_words.specs.declared.command.Command.TheVariants.{Census}
 use Rattle.drg_program.proofs.OutputLemmas.{ends_alone, no_file}
+use Rattle.drg_program.proofs.WordLemmas.{census_limits}
 use Rattle.drg_program.proofs.output_of.Goals as goal
 
 pub returns-in-Check-clause-output : goal.returns-in-Check-clause-output
 returns-in-Check-clause-output g c =
     let P : Command → Type 0 = λ command.
     (bytes : List ℕ) × AreInputOf (g.I.Inputs.files c.args.inputs.now) (file_of command) bytes × Ends command bytes c.check.result in
-    subst P (sym c.in-Check.is) c.check.ensures.output
+    let found = c.check.ensures.output in
+    subst P (sym c.in-Check.is) (found.0, found.1, found.2 c.in-Check.budget)
 
 pub returns-in-Replay-clause-output : goal.returns-in-Replay-clause-output
 returns-in-Replay-clause-output g c =
@@ -45,3 +47,6 @@ returns-in-Classical-clause-output g c =
     let P : Command → Type 0 = λ command.
     (bytes : List ℕ) × AreInputOf (g.I.Inputs.files c.args.inputs.now) (file_of command) bytes × Ends command bytes c.classical_file.result in
     subst P (sym c.in-Classical.is) c.classical_file.ensures.output
+
+pub arrays_of-requires : goal.arrays_of-requires
+arrays_of-requires g c = census_limits c.in-Census.d c.in-Census.k c.in-Census.n (subst HasWords c.in-Census.is c.requires)

@@ -1,6 +1,6 @@
 use Rattle.std.proofs.Common.{ℕ, List, ◌∙◌, subst}
 use Rattle.drg_program.specs.Run.{Finds}
-use Rattle.drg_program.specs.declared.command.Command.TheVariants.{Graph}
+use Rattle.drg_words.specs.declared.command.Command.TheVariants.{Graph}
 use Rattle.drg_program.proofs.OutputLemmas.{causes, ends}
 use Rattle.drg_program.proofs.graph.graph_file.Goals as goal
 
