@@ -1,5 +1,5 @@
 -- Lines one after another, and what lines that close every branch say.
-use Rattle.std.proofs.Common.{◌≡◌, ℕ, zero, suc, ◌<◌, ◌≤◌, ℤ, true, false, List, [], ◌∷◌, ◌++◌, length, take, take-suc, refl, sym, ap, ◌∙◌, subst, arith, inl, inr}
+use Rattle.std.proofs.Common.{◌≡◌, ℕ, zero, suc, ◌<◌, ◌≤◌, ℤ, true, false, List, [], ◌∷◌, ◌++◌, length, take, take-suc, refl, sym, ap, subst, arith, inl}
 use Rattle.std.specs.Prelude.{◌≤ℤ◌, slice_index_or, pos}
 use Rattle.std.proofs.lemmas.Int.{ints}
 use Rattle.std.specs.Int.Signed.{lt_z, le_z}
@@ -10,15 +10,15 @@ use Rattle.drg_linear.specs.declared.unknown.Unknown.{Unknown}
 use Rattle.drg_linear.specs.declared.system.EquationName.{EquationName}
 use Rattle.drg_linear.specs.Unknowns.{is_unknown, place}
 use Rattle.drg_linear.specs.Equations.{EquationContent, MeetsAll}
-use Rattle.drg_linear.specs.Rooms.{RoomContent, RoomBounds, InRoom, IsRoom, IsSolution, bounds_at}
+use Rattle.drg_linear.specs.Rooms.{RoomContent, RoomBounds, IsRoom, IsSolution, bounds_at}
 use Rattle.drg_linear.specs.Splits.{Divides, side_up_to, side_above}
 use Rattle.drg_linear.specs.Systems.{SystemContent}
 use Rattle.drg_rooms.specs.Content.{BranchesContent}
 use Rattle.drg_rooms.specs.Lines.{is_open, after, splits}
 use Rattle.drg_rooms.specs.Values.{with_low, with_high}
-use Rattle.drg_rooms.specs.Laws.{InSome, IsKept}
+use Rattle.drg_rooms.specs.Laws.{IsKept}
 use Rattle.drg_rooms.proofs.Keeping.{keeps}
-use Rattle.drg_solver.specs.Lines.{line_of, Names, NameEach, IsGood, bounds_after, CloseAll}
+use Rattle.drg_solver.specs.Lines.{line_of, Names, NameEach, bounds_after, CloseAll}
 use Rattle.drg_solver.specs.Findings.{Lead, state}
 use Rattle.drg_solver.proofs.Fits.{order_at}
 use Rattle.drg_solver.proofs.Leading.{good, indices_are, yes_at_most, yes_less}

@@ -1,6 +1,6 @@
 -- The greatest common divisor of the coefficients of the free terms decides whether an equation fails modulo some number.
 use Rattle.std.proofs.Common.{◌≡◌, ℕ, zero, suc, ◌<◌, ◌≤◌, ◌*◌, ℤ, pos, negsuc, ◌*ℤ◌, ◌+ℤ◌, ◌-ℤ◌, ◌≤ℤ◌, ◌<ℤ◌, Bool, true, false, List, [], ◌∷◌, refl, ap, sym, ◌∙◌, subst, arith, inl, inr}
-use Rattle.std.specs.Prelude.{◌⊎◌, ◌&&◌, ◌||◌, not, ⊤, if◌then◌else◌, unsigned_abs}
+use Rattle.std.specs.Prelude.{◌⊎◌, ◌||◌, not, ⊤, if◌then◌else◌, unsigned_abs}
 use Rattle.std.specs.Int.{◌∣◌}
 use Rattle.std.specs.Ordering.{int_eq}
 use Rattle.std.specs.Int.Signed.{lt_z}
@@ -9,7 +9,7 @@ use Rattle.std.proofs.lemmas.Nat.Gcd.{dvd_trans, le_of_dvd, dvd-zero}
 use Rattle.std.proofs.Math.Nat.{eq-zero_of_zero-dvd, dvd-mul_right}
 use native.Mathlib.Nat.{mul-div_cancel'}
 use Rattle.drg_algebra.specs.Gcd.{gcd_of, gcd_is}
-use Rattle.drg_algebra.proofs.Tests.{both, and-in, decided, never, same-number}
+use Rattle.drg_algebra.proofs.Tests.{both, and-in, never, same-number}
 use Rattle.drg_whole.specs.Residues.{residue, divides}
 use Rattle.drg_whole.specs.Sums.{sum_from}
 use Rattle.drg_whole.proofs.Residues.{divided, residue_multiple}

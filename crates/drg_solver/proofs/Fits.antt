@@ -4,7 +4,7 @@ use Rattle.std.specs.Prelude.{◌&&◌, ◌^◌, if◌then◌else◌, map, unsig
 use Rattle.std.proofs.Math.Nat.{mul-le-mul_left}
 use Rattle.std.proofs.lemmas.Int.{ints, unsigned_abs-mul}
 use Rattle.std.specs.Int.Signed.{lt_z, le_z}
-use Rattle.drg_algebra.proofs.Tests.{both, and-in}
+use Rattle.drg_algebra.proofs.Tests.{both}
 use Rattle.drg_whole.specs.Range.{InRange, in_range}
 use Rattle.drg_whole.specs.Sums.{sum_from, sum_fits_from}
 use Rattle.drg_whole.proofs.Ranges.{fits}
@@ -13,10 +13,9 @@ use Rattle.drg_linear.specs.declared.bounds.End.{End}
 use Rattle.drg_linear.specs.declared.bounds.End.TheVariants.{Least, Greatest}
 use Rattle.drg_linear.specs.Unknowns.{place, is_same}
 use Rattle.drg_linear.specs.Equations.{Term, EquationContent, rest_of}
-use Rattle.drg_linear.specs.Rooms.{RoomBounds, RoomContent, Bounds, IsRoom, bounds_at, are_ordered, end_of, end_product, end_products, end_sum, end_sum_fits}
-use Rattle.drg_linear.specs.Moduli.{is_fixed, fixed_products, fixed_product, less_from}
+use Rattle.drg_linear.specs.Rooms.{RoomBounds, RoomContent, Bounds, IsRoom, bounds_at, are_ordered, end_of, end_product, end_products, end_sum}
+use Rattle.drg_linear.specs.Moduli.{is_fixed, fixed_products, fixed_product}
 use Rattle.drg_linear.specs.Systems.{FitsOver, weight}
-use Rattle.drg_linear.specs.Values.{left_by}
 use Rattle.drg_linear.proofs.Holding.{low_at}
 use Rattle.drg_rooms.specs.Moduli.{all_in_range, less_fits_from}
 use Rattle.drg_solver.specs.Parts.{IsPart}

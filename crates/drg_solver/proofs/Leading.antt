@@ -1,11 +1,10 @@
 -- The lines of a leaf that closes in one step close it.
-use Rattle.std.proofs.Common.{◌≡◌, ◌≢◌, ℕ, zero, suc, ◌<◌, ◌≤◌, ℤ, pos, negsuc, ◌≤ℤ◌, ◌<ℤ◌, Bool, true, false, List, [], ◌∷◌, length, refl, ap, sym, ◌∙◌, subst, arith, inl, inr}
-use Rattle.std.specs.Prelude.{◌⊎◌, ◌&&◌, not, if◌then◌else◌, unsigned_abs, slice_set, slice_index_or, All}
+use Rattle.std.proofs.Common.{◌≡◌, ◌≢◌, ℕ, zero, suc, ◌<◌, ◌≤◌, ℤ, pos, ◌≤ℤ◌, ◌<ℤ◌, Bool, true, false, List, [], ◌∷◌, length, refl, ap, sym, subst, arith, inl, inr}
+use Rattle.std.specs.Prelude.{◌⊎◌, not, if◌then◌else◌, unsigned_abs, slice_set, All}
 use Rattle.std.specs.Ordering.{int_eq}
 use Rattle.std.specs.Int.Signed.{lt_z, le_z}
 use Rattle.std.proofs.lemmas.Int.{ints}
-use Rattle.std.proofs.lemmas.Bool.Decides.{nat_tests}
-use Rattle.drg_algebra.proofs.Tests.{both, and-in, not-in, not-false}
+use Rattle.drg_algebra.proofs.Tests.{and-in, not-in, not-false}
 use Rattle.drg_linear.specs.declared.unknown.Unknown.{Unknown}
 use Rattle.drg_linear.specs.declared.bounds.End.{End}
 use Rattle.drg_linear.specs.declared.bounds.End.TheVariants.{Least, Greatest}
@@ -13,20 +12,19 @@ use Rattle.drg_linear.specs.Unknowns.{is_unknown, place}
 use Rattle.drg_linear.specs.Equations.{EquationContent, is_equation, coefficient_of, rest_of}
 use Rattle.drg_linear.specs.Rooms.{RoomBounds, RoomContent, Bounds, IsRoom, bounds_at, end_sum, end_sum_fits}
 use Rattle.drg_linear.specs.Closing.{Misses, FailsModulo}
-use Rattle.drg_linear.specs.Systems.{FitsOver, SystemContent}
-use Rattle.drg_linear.specs.Values.{least_by, greatest_by, left_by, least_value, greatest_value}
-use Rattle.drg_linear.specs.Moduli.{divides_free, fixed_products, less_from}
+use Rattle.drg_linear.specs.Systems.{FitsOver}
+use Rattle.drg_linear.specs.Values.{least_by, greatest_by, least_value, greatest_value}
+use Rattle.drg_linear.specs.Moduli.{fixed_products, less_from}
 use Rattle.drg_linear.proofs.Counting.{indices}
 use Rattle.drg_whole.specs.Residues.{divides}
-use Rattle.drg_whole.specs.Range.{in_range}
 use Rattle.drg_derivation.specs.declared.line.Line.{Line}
 use Rattle.drg_derivation.specs.declared.line.Line.TheVariants as line
 use Rattle.drg_rooms.specs.Content.{BranchesContent}
-use Rattle.drg_rooms.specs.Steps.{Step, Holds, Fits, EachHolds}
+use Rattle.drg_rooms.specs.Steps.{Holds, Fits, EachHolds}
 use Rattle.drg_rooms.specs.Indices.{is_index}
 use Rattle.drg_rooms.specs.Lines.{is_open, are_indices, is_void, steps_of}
 use Rattle.drg_rooms.specs.Values.{left_steps, low_steps, high_steps, miss_steps, with_low, with_high, raised, lowered, low_raised, high_lowered}
-use Rattle.drg_rooms.specs.Moduli.{mod_steps, all_in_range, less_fits_from}
+use Rattle.drg_rooms.specs.Moduli.{mod_steps}
 use Rattle.drg_rooms.specs.Combinations.{is_number, equation_at}
 use Rattle.drg_rooms.proofs.StepLaws.{is_met}
 use Rattle.drg_solver.specs.declared.closing.Closing.{Closing}
@@ -35,7 +33,7 @@ use Rattle.drg_solver.specs.Closings.{ClosesBy, lines_of, high_of, void_of}
 use Rattle.drg_solver.specs.Lines.{IsGood, bounds_after}
 use Rattle.drg_solver.specs.Findings.{Lead, state}
 use Rattle.drg_solver.proofs.Places.{place_below}
-use Rattle.drg_solver.proofs.Fits.{ends_stay, rest_stays, left_in_range, left_fits, Stays}
+use Rattle.drg_solver.proofs.Fits.{ends_stay, rest_stays, left_in_range, left_fits}
 use Rattle.drg_solver.proofs.Terms.{rest_stands}
 
 -- ---- numbers of a line

@@ -1,15 +1,14 @@
 -- The table of the greatest of the least values.
-use Rattle.std.proofs.Common.{◌≡◌, ◌≢◌, ℕ, zero, suc, ◌<◌, ◌≤◌, ◌+◌, ℤ, pos, ◌≤ℤ◌, ◌<ℤ◌, Bool, true, false, List, [], ◌∷◌, length, drop, get_or, refl, ap, sym, ◌∙◌, subst, arith, inl, inr}
+use Rattle.std.proofs.Common.{◌≡◌, ℕ, zero, suc, ◌<◌, ◌+◌, ℤ, ◌≤ℤ◌, Bool, true, false, List, [], ◌∷◌, length, drop, refl, ap, sym, ◌∙◌, subst, arith, inl, inr}
 use Rattle.std.specs.Prelude.{◌⊎◌, if◌then◌else◌, slice_index_or, slice_set, replicate, Contains, All, Option, Some, None}
 use Rattle.std.specs.Int.Signed.{lt_z}
 use Rattle.std.proofs.lemmas.Int.{ints}
-use Rattle.std.proofs.Math.Seq.{drop-cons}
-use Rattle.drg_linear.specs.Unknowns.{is_unknown, place}
-use Rattle.drg_linear.specs.Equations.{Term, EquationContent, is_equation, coefficient_of}
+use Rattle.drg_linear.specs.Unknowns.{place}
+use Rattle.drg_linear.specs.Equations.{Term, EquationContent, is_equation}
 use Rattle.drg_linear.specs.Rooms.{RoomBounds, RoomContent}
-use Rattle.drg_linear.specs.Systems.{FitsOver, are_unknowns}
+use Rattle.drg_linear.specs.Systems.{FitsOver}
 use Rattle.drg_linear.specs.Values.{least_value}
-use Rattle.drg_rooms.specs.Combinations.{equation_at, no_equation}
+use Rattle.drg_rooms.specs.Combinations.{no_equation}
 use Rattle.drg_solver.specs.declared.closing.Bound.{Bound}
 use Rattle.drg_solver.specs.Tables.{Table, greater, with_value, least_of, with_terms, with_equations, IsLeft, AreLeft}
 use Rattle.drg_solver.proofs.Terms.{term_unknown, term_has_coefficient}

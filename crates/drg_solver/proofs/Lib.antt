@@ -13,6 +13,9 @@ pub mod Few
 pub mod Splits
 pub mod UnderWay
 pub mod Closed
+pub mod Tried
+pub mod Divided
+pub mod Prunings
 pub mod Solved
 pub mod Division
 pub mod Reached

@@ -1,15 +1,15 @@
 -- A room closes in one step where an equation misses, fails modulo a number, or values cross, and only there.
-use Rattle.std.proofs.Common.{◌≡◌, ◌≢◌, ℕ, ◌<◌, ℤ, pos, ◌≤ℤ◌, ◌<ℤ◌, true, List, length, refl, ap, sym, subst, arith}
-use Rattle.std.specs.Prelude.{Contains, All, slice_index_or, replicate, Option, None, Some, IfNone, IfSome, MatchOption}
+use Rattle.std.proofs.Common.{ℕ, ◌<◌, ℤ, ◌≤ℤ◌, ◌<ℤ◌, List, length, subst, arith}
+use Rattle.std.specs.Prelude.{Contains, All, replicate, Option, None, Some, IfNone, IfSome, MatchOption}
 use Rattle.std.proofs.lemmas.Int.{ints}
 use Rattle.drg_linear.specs.Unknowns.{place}
-use Rattle.drg_linear.specs.Equations.{Term, EquationContent, coefficient_of}
-use Rattle.drg_linear.specs.Rooms.{RoomBounds, RoomContent, IsRoom}
+use Rattle.drg_linear.specs.Equations.{Term, EquationContent}
+use Rattle.drg_linear.specs.Rooms.{RoomContent, IsRoom}
 use Rattle.drg_linear.specs.Values.{least_value, greatest_value}
 use Rattle.drg_linear.specs.Closing.{Misses, FailsModulo, ClosesInOneStep, ByMiss, ByModulus, ByValues}
 use Rattle.drg_solver.specs.declared.closing.Closing.{Closing}
 use Rattle.drg_solver.specs.Closings.{ClosesBy}
-use Rattle.drg_solver.specs.Tables.{Table, with_equations, IsBelow, NoneCrosses}
+use Rattle.drg_solver.specs.Tables.{with_equations, IsBelow, NoneCrosses}
 use Rattle.drg_solver.proofs.Places.{place_below}
 use Rattle.drg_solver.proofs.Terms.{has_term}
 use Rattle.drg_solver.proofs.LeastValues.{table_reaches}

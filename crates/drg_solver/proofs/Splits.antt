@@ -1,5 +1,5 @@
 -- The leaves after splits.
-use Rattle.std.proofs.Common.{◌≡◌, ℕ, ◌+◌, ◌*◌, ◌<◌, ◌≤◌, ℤ, List, [], ◌∷◌, ◌++◌, length, set, refl, ap, ◌∙◌, arith}
+use Rattle.std.proofs.Common.{◌≡◌, ℕ, ◌+◌, ◌≤◌, List, [], ◌∷◌, ◌++◌, length, set, refl, ap, ◌∙◌, arith}
 use Rattle.std.specs.List.{sum_by}
 use Rattle.std.proofs.lemmas.List.{length-set, length_push}
 use Rattle.std.proofs.lemmas.List.Sums.{sum_by-set, sum_by_push, sum_by-cons}
@@ -7,7 +7,7 @@ use Rattle.drg_linear.specs.declared.system.Branching.{Branching}
 use Rattle.drg_linear.specs.Unknowns.{place}
 use Rattle.drg_linear.specs.Equations.{EquationContent}
 use Rattle.drg_linear.specs.Rooms.{RoomBounds, points}
-use Rattle.drg_linear.specs.Splits.{Divides, side_up_to, side_above, leaf_at, divided, leaves_from, IsLive, EachIsLive}
+use Rattle.drg_linear.specs.Splits.{side_up_to, side_above, leaf_at, divided, leaves_from, IsLive, EachIsLive}
 use Rattle.drg_linear.proofs.Points.{points_some}
 use Rattle.drg_solver.proofs.Rooms.{points_add_up}
 

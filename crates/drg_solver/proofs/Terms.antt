@@ -1,12 +1,12 @@
 -- The terms of an equation: the one of an unknown, and the rest.
-use Rattle.std.proofs.Common.{◌≡◌, ◌≢◌, ℕ, zero, suc, ◌<◌, ℤ, pos, negsuc, ◌*ℤ◌, ◌+ℤ◌, ◌-ℤ◌, Bool, true, false, List, [], ◌∷◌, length, refl, ap, sym, ◌∙◌, subst, arith, inl, inr}
-use Rattle.std.specs.Prelude.{◌⊎◌, ◌&&◌, if◌then◌else◌, not, slice_index_or, slice_set, Contains}
+use Rattle.std.proofs.Common.{◌≡◌, ◌≢◌, ℕ, zero, suc, ◌<◌, ℤ, pos, negsuc, ◌*ℤ◌, ◌+ℤ◌, ◌-ℤ◌, Bool, true, false, List, [], ◌∷◌, length, refl, ap, ◌∙◌, subst, arith, inl, inr}
+use Rattle.std.specs.Prelude.{◌&&◌, if◌then◌else◌, not, slice_index_or, slice_set, Contains}
 use Rattle.std.specs.Ordering.{int_eq}
 use Rattle.std.proofs.lemmas.Int.{ints}
 use Rattle.std.proofs.lemmas.Bool.Decides.{nat_tests}
-use Rattle.drg_algebra.proofs.Tests.{both, decided, equal-self}
+use Rattle.drg_algebra.proofs.Tests.{both, equal-self}
 use Rattle.drg_whole.specs.Range.{InRange, in_range}
-use Rattle.drg_whole.specs.Sums.{sum_from, sum_fits_from}
+use Rattle.drg_whole.specs.Sums.{sum_from}
 use Rattle.drg_whole.proofs.Ranges.{fitting}
 use Rattle.drg_linear.specs.declared.unknown.Unknown.{Unknown}
 use Rattle.drg_linear.specs.declared.bounds.End.{End}

@@ -1,5 +1,5 @@
 -- The steps of a search keep what is known of it.
-use Rattle.std.proofs.Common.{◌≡◌, ◌≢◌, ℕ, suc, ◌+◌, ◌<◌, ◌≤◌, ℤ, List, [], ◌∷◌, ◌++◌, length, set, refl, sym, ap, ◌∙◌, arith, subst, inl, inr}
+use Rattle.std.proofs.Common.{◌≡◌, ◌≢◌, ℕ, ◌+◌, ◌<◌, ◌≤◌, ℤ, List, [], ◌∷◌, ◌++◌, length, set, refl, sym, ap, ◌∙◌, arith, subst, inl, inr}
 use Rattle.std.proofs.lemmas.List.{length-set, get_or-set_same, get_or-set_other, get_or_append_left, get_or_push}
 use Rattle.std.proofs.lemmas.List.Elements.{All-weaker}
 use Rattle.std.proofs.lemmas.Bool.{cases_eq}
@@ -8,12 +8,12 @@ use Rattle.drg_linear.specs.declared.unknown.Unknown.{Unknown}
 use Rattle.drg_linear.specs.Unknowns.{place}
 use Rattle.drg_linear.specs.Equations.{EquationContent}
 use Rattle.drg_linear.specs.Rooms.{RoomContent, RoomBounds, IsSolution, slack}
-use Rattle.drg_linear.specs.Splits.{Divides, side_up_to, side_above, leaf_at, divided, leaves_from, IsLive, HoldsSolutionAt, AreLive}
+use Rattle.drg_linear.specs.Splits.{Divides, side_up_to, side_above, leaf_at, divided, IsLive, HoldsSolutionAt, AreLive}
 use Rattle.drg_linear.specs.Systems.{SystemContent}
 use Rattle.drg_solver.specs.declared.leaf.Leaf.{Leaf}
 use Rattle.drg_solver.specs.Parts.{IsPart}
 use Rattle.drg_solver.specs.Findings.{IsDivided}
-use Rattle.drg_solver.specs.Leaves.{with_bounds, lower, upper, split_of, IsHeld, IsInPlace, AreInPlace, AreApart, AreDeep, leaves_after, IsUnderWay}
+use Rattle.drg_solver.specs.Leaves.{lower, upper, split_of, IsHeld, IsInPlace, AreInPlace, AreApart, AreDeep, leaves_after, IsUnderWay}
 use Rattle.drg_solver.proofs.Rooms.{slack_falls, up_to_is_part, above_is_part}
 use Rattle.drg_solver.proofs.Splits.{length_divided, length_leaves, leaves_push, live_push}
 use Rattle.drg_solver.proofs.Few.{distinct_few}

@@ -11,7 +11,6 @@ use Rattle.drg_linear.specs.Splits.{Divides}
 use Rattle.drg_linear.specs.Systems.{SystemContent}
 use Rattle.drg_rooms.specs.Content.{BranchesContent}
 use Rattle.drg_rooms.specs.Lines.{after}
-use Rattle.drg_rooms.specs.Laws.{with_kept}
 use Rattle.drg_solver.specs.Lines.{IsGood, bounds_after}
 use Rattle.drg_solver.specs.Answers.{Solves}
 use Rattle.drg_solver.specs.declared.finding.Finding.{Finding}

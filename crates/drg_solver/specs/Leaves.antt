@@ -1,5 +1,5 @@
 -- The leaves that wait, the next one first, and what is known of them in the middle of a search.
-use Rattle.std.specs.Prelude.{◌≡◌, ◌⊎◌, ◌+◌, ◌<◌, ◌≤◌, ℕ, ℤ, pos, ◌+ℤ◌, ⊤, List, [], ◌∷◌, ◌++◌, length, reverse, slice_set}
+use Rattle.std.specs.Prelude.{◌≡◌, ◌⊎◌, ◌+◌, ◌<◌, ◌≤◌, ℕ, ℤ, ⊤, List, [], ◌∷◌, ◌++◌, length}
 use Rattle.drg_linear.specs.declared.system.Branching.{Branching}
 use Rattle.drg_linear.specs.declared.unknown.Unknown.{Unknown}
 use Rattle.drg_linear.specs.Unknowns.{place}

@@ -7,3 +7,4 @@ pub mod Lines
 pub mod Answers
 pub mod Findings
 pub mod Leaves
+pub mod Trials

@@ -27,14 +27,14 @@ pub enum Closing {
 }
 
 /// The number of an equation in a line.
-fn number(n: usize) -> i128
+pub fn number(n: usize) -> i128
     ensures { result ≡ pos n }
 {
     n as i128
 }
 
 /// The line `low` of a least value.
-fn low_line(low: Bound) -> Line
+pub fn low_line(low: Bound) -> Line
     ensures { result ≡ low_of low }
 {
     let Unknown { r, s, t } = low.unknown;
@@ -48,7 +48,7 @@ fn low_line(low: Bound) -> Line
 }
 
 /// The line `high` of a greatest value.
-fn high_line(high: Bound) -> Line
+pub fn high_line(high: Bound) -> Line
     ensures { result ≡ high_of high }
 {
     let Unknown { r, s, t } = high.unknown;
@@ -62,7 +62,7 @@ fn high_line(high: Bound) -> Line
 }
 
 /// The line `void` of an unknown.
-fn void_line(unknown: Unknown) -> Line
+pub fn void_line(unknown: Unknown) -> Line
     ensures { result ≡ void_of unknown }
 {
     let Unknown { r, s, t } = unknown;

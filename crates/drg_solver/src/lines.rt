@@ -8,7 +8,7 @@ use drg_linear::{EquationName, System, Unknown};
 use std::alloc::{AllocError, Global};
 
 /// The line that makes an equation, by its name.
-fn line_of(name: EquationName) -> Line
+pub fn line_of(name: EquationName) -> Line
     ensures { result ≡ the_line_of name }
 {
     match name {

@@ -97,7 +97,7 @@ fn left_by_fixed(room: &Room, equation: &Equation) -> Whole
     match checked_left(room, equation) {
         Ok(left) => left,
         // An equation that fits over the room isn't too wide in it.
-        Err(Wide) => Whole::new(0),
+        Err(Wide) => unreachable!(),
     }
 }
 

@@ -5,8 +5,11 @@ ghost use Rattle.drg_solver.specs.Answers.{IsAnswer, IsDecided};
 
 use crate::finding::{Finding, find};
 use crate::leaf::{Leaf, divide};
-use crate::lines::{names, split_line};
+use crate::lines::split_line;
 use crate::outcome::Outcome;
+use crate::proposal::Proposer;
+use crate::pruning::derivation;
+use drg_derivation::Line;
 use drg_linear::{Branching, Room, System};
 use std::alloc::{AllocError, Global};
 
@@ -35,14 +38,15 @@ pub fn solve(alloc: Global, system: &System, budget: u32) -> Result<Outcome, All
     ensures enough { 2 * points system.now.room.bounds ≤ budget → IfOk result IsDecided }
 {
     let mut splits: Vec<Branching> = Vec::new(alloc);
-    let mut lines = names(alloc, system)?;
+    let mut lines: Vec<Line> = Vec::new(alloc);
+    let mut proposer = Proposer::new(alloc, system)?;
     let mut waiting: Vec<Leaf> = Vec::new(alloc);
     waiting.push(whole(alloc, system)?)?;
     'branches: for opened in 0..budget {
         let Some(leaf) = waiting.pop() else {
-            return Ok(Outcome::Closed(lines));
+            return Ok(Outcome::Closed(derivation(alloc, system, lines)?));
         };
-        match find(alloc, system, &leaf.room)? {
+        match find(alloc, system, &mut proposer, &leaf.room)? {
             Finding::Closed(mut closing) => lines.append(&mut closing)?,
             Finding::Solved(values) => return Ok(Outcome::Solution(values)),
             Finding::Divided { unknown, at } => {
@@ -52,7 +56,7 @@ pub fn solve(alloc: Global, system: &System, budget: u32) -> Result<Outcome, All
         }
     }
     if waiting.is_empty() {
-        return Ok(Outcome::Closed(lines));
+        return Ok(Outcome::Closed(derivation(alloc, system, lines)?));
     }
     Ok(Outcome::Spent {
         branches: budget,

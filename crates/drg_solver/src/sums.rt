@@ -30,7 +30,7 @@ fn end_sum(room: &Room, side: End, equation: &Equation) -> Whole
     match end_sum_onto(Whole::new(0), room.d(), side, room.as_slice(), terms) {
         Ok(sum) => sum,
         // An equation that fits over the room isn't too wide in it.
-        Err(Wide) => Whole::new(0),
+        Err(Wide) => unreachable!(),
     }
 }
 
@@ -81,7 +81,8 @@ pub fn beside(
 {
     match checked_beside(room, side, equation.right_side(), sum, term) {
         Ok(left) => left,
-        Err(Wide) => sum,
+        // The same for the right side less such a sum.
+        Err(Wide) => unreachable!(),
     }
 }
 

@@ -1,21 +1,13 @@
 //! Systems for the tests, from equations that are looked at before they are made.
-ghost use Rattle.std.specs.Prelude.{◌≡◌, ◌≤◌, true, IfSome};
+ghost use Rattle.std.specs.Prelude.{◌≡◌, ◌≤◌, ◌<◌, ◌^◌, true, IfSome};
 ghost use Rattle.drg_linear.specs.Equations.{all_coefficients, follows as the_follows, is_ordered};
 ghost use Rattle.drg_linear.specs.Systems.{FitsOver, are_unknowns, weight};
-ghost use Rattle.drg_linear.specs.Unknowns.{is_unknown as the_is_unknown};
 
+use crate::finding::is_unknown;
 use crate::{Outcome, solve};
 use drg_linear::{Equation, EquationName, Room, System, Terms, Unknown, bounds_at, holds};
 use std::alloc::Global;
 use std::test::Fail;
-
-/// Whether the numbers of the unknown are from 1 to d.
-fn is_unknown(d: usize, u: Unknown) -> bool
-    ensures { result ≡ the_is_unknown d u }
-{
-    let (r, s, t) = (usize::from(u.r), usize::from(u.s), usize::from(u.t));
-    1 <= r && r <= d && 1 <= s && s <= d && 1 <= t && t <= d
-}
 
 /// Whether the first of the terms, where there is one, stands after this one.
 fn follows(term: (Unknown, i128), terms: &[(Unknown, i128)]) -> bool
@@ -77,6 +69,14 @@ pub fn room(alloc: Global, highs: [u16; 8]) -> Result<Room, Fail> {
         (0, i128::from(h)),
     ]?;
     Ok(Room::make(2, bounds))
+}
+
+/// Diameter d, with each unknown from 0 to 2.
+pub fn even_room(alloc: Global, d: usize) -> Result<Room, Fail>
+    requires { d < 2 ^ 8 }
+{
+    let bounds = vec![in alloc; (0, 2); d * d * d]?;
+    Ok(Room::make(d, bounds))
 }
 
 /// Appends an equation with its name.

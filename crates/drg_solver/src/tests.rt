@@ -1,5 +1,5 @@
 //! Small systems by hand, and the systems of types of two arrays of diameter 2.
-use crate::systems::{answer, push, room};
+use crate::systems::{answer, even_room, push, room};
 use drg_linear::{EquationName, System, Unknown};
 use std::alloc::Global;
 use std::process::Abort;
@@ -56,17 +56,10 @@ fn solutions(rt: HostRuntime) -> Result<(), Fail> {
     // No equation.
     expect(&rt, alloc, [3, 0, 0, 0], &[], 1, "solution")?;
     // x + y = 3.
-    expect(
-        &rt,
-        alloc,
-        [2, 2, 0, 0],
-        &[[1, 1, 0, 0, 3]],
-        100,
-        "solution",
-    )?;
+    expect(&rt, alloc, [2, 2, 0, 0], &[[1, 1, 0, 0, 3]], 1, "solution")?;
     // 2x + 3y - 5z = 7 and x + z = 4.
     let rows = [[2, 3, -5, 0, 7], [1, 0, 1, 0, 4]];
-    expect(&rt, alloc, [9, 9, 9, 0], &rows, 1000, "solution")?;
+    expect(&rt, alloc, [9, 9, 9, 0], &rows, 1, "solution")?;
     Ok(())
 }
 
@@ -98,6 +91,20 @@ fn budgets(rt: HostRuntime) -> Result<(), Fail> {
     // Twice the four points.
     let both = "Eq Eq Split Low High Void Low High Void ";
     expect(&rt, alloc, [1, 1, 0, 0], &APART, 8, both)?;
+    Ok(())
+}
+
+#[test]
+fn tighter_bounds(rt: HostRuntime) -> Result<(), Fail> {
+    let alloc = rt.alloc();
+    // x + y = 1000 leaves y at least 998, so z is at most 2 by y + z = 1000, and z + w at most 7.
+    let rows = [[1, 1, 0, 0, 1000], [0, 1, 1, 0, 1000], [0, 0, 1, 1, 10]];
+    let closed = "Eq Eq Eq Low High Miss ";
+    expect(&rt, alloc, [2, 1000, 1000, 5], &rows, 1, closed)?;
+    // y + z = 2 leaves both at most 2, so 2y + 3z is at most 10. The other equation isn't needed.
+    let rows = [[1, 0, 0, 1, 4], [0, 1, 1, 0, 2], [0, 2, 3, 0, 17]];
+    let closed = "Eq Eq High High Miss ";
+    expect(&rt, alloc, [9, 9, 9, 9], &rows, 1, closed)?;
     Ok(())
 }
 
@@ -175,17 +182,17 @@ fn types_of_arrays(rt: HostRuntime) -> Result<(), Fail> {
         [2, 2, 1],
         [2, 2, 2],
     ] {
-        let given = answer(alloc, &counting(alloc, &PETERSEN, ty)?, 100)?;
+        let given = answer(alloc, &counting(alloc, &PETERSEN, ty)?, 1)?;
         assert_eq!(rt; given.as_str(), "solution", "{ty:?}");
     }
     // The unknowns [1 1 2] and [2 1 2] are at most 1 and 2, and add up to 4.
-    let closed = "Eq Eq Eq Eq Eq Eq Eq Eq Eq Eq Eq Eq Miss ";
+    let closed = "Eq Miss ";
     for ty in [[1, 1, 1], [1, 2, 2], [2, 1, 2], [2, 2, 1]] {
         let given = answer(alloc, &counting(alloc, &SIX_FOUR, ty)?, 1)?;
         assert_eq!(rt; given.as_str(), closed, "{ty:?}");
     }
     for ty in [[1, 1, 2], [1, 2, 1], [2, 1, 1], [2, 2, 2]] {
-        let given = answer(alloc, &counting(alloc, &SIX_FOUR, ty)?, 100)?;
+        let given = answer(alloc, &counting(alloc, &SIX_FOUR, ty)?, 1)?;
         assert_eq!(rt; given.as_str(), "solution", "{ty:?}");
     }
     Ok(())
@@ -194,16 +201,45 @@ fn types_of_arrays(rt: HostRuntime) -> Result<(), Fail> {
 #[test]
 fn a_longer_search(rt: HostRuntime) -> Result<(), Fail> {
     let alloc = rt.alloc();
-    // x + y = 41 and x - y = 0: 2x is 41. The side up to 0 misses. Those with one value up to 20 leave
-    // y two values, and so does the side above 20, as 41 - x is at most 20 there.
+    // x + y = 41 and x - y = 0: 2x is 41. By the first x is at least 1. The sides up to 1 and with one
+    // value up to 20 leave y two values, and so does the side above 20, as 41 - x is at most 20 there.
     let rows = [[1, 1, 0, 0, 41], [1, -1, 0, 0, 0]];
-    let mut wanted = String::from_str(alloc, "Eq Eq Split Miss ")?;
+    let mut wanted = String::from_str(alloc, "Eq Eq ")?;
     for _ in 0..20 {
         wanted.push_str("Split Low High Void ")?;
     }
     wanted.push_str("Low High Void ")?;
-    expect(&rt, alloc, [40, 40, 0, 0], &rows, 43, wanted.as_str())?;
-    let short = answer(alloc, &system(alloc, [40, 40, 0, 0], &rows)?, 42)?;
-    assert!(rt; short.as_str().starts_with("spent 42 [Branching"));
+    expect(&rt, alloc, [40, 40, 0, 0], &rows, 41, wanted.as_str())?;
+    let short = answer(alloc, &system(alloc, [40, 40, 0, 0], &rows)?, 40)?;
+    assert!(rt; short.as_str().starts_with("spent 40 [Branching"));
+    Ok(())
+}
+
+/// The equations of a room of diameter 12 with each unknown at most 2: those over one vertex, for
+/// each pair of distances from the two others, add up to this number.
+fn many_unknowns(alloc: Global, right: i128) -> Result<System, Fail> {
+    let mut system = System::make(alloc, even_room(alloc, 12)?);
+    'vertices: for a in 1..4 {
+        'pairs: for pair in 0..144 {
+            let (x, y) = (pair / 12 + 1, pair % 12 + 1);
+            let mut terms = Vec::new(alloc);
+            'distances: for q in 1..13 {
+                terms.push((unknown_over(a, x, y, q), 1))?;
+            }
+            push(&mut system, EquationName::Eq { a, x, y }, terms, right)?;
+        }
+    }
+    Ok(system)
+}
+
+#[test]
+fn diameter_twelve(rt: HostRuntime) -> Result<(), Fail> {
+    let alloc = rt.alloc();
+    // Each of the 1,728 unknowns may be 1.
+    let given = answer(alloc, &many_unknowns(alloc, 12)?, 1)?;
+    assert_eq!(rt; given.as_str(), "solution");
+    // Twelve unknowns of at most 2.
+    let given = answer(alloc, &many_unknowns(alloc, 25)?, 1)?;
+    assert_eq!(rt; given.as_str(), "Eq Miss ");
     Ok(())
 }

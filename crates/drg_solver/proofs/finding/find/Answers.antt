@@ -16,6 +16,9 @@ returns-in-Some c = λ kept.
     let D : ℕ → Type 0 = λ d. Lead (state d c.args.system.now.equations (c.args.room.now.bounds ∷ kept)) 0 (lines_of c.in-Some.closing) (state d c.args.system.now.equations kept) 0 in
     rw c.in_ok-lines.ensures (subst D c.requires.d lead)
 
+pub proposed-requires-clause-unclosed : goal.proposed-requires-clause-unclosed
+proposed-requires-clause-unclosed c = rw c.in_default.is at c.in_ok-closing.ensures
+
 pub first_free-requires : goal.first_free-requires
 first_free-requires c = rw c.equations-equations.ensures.value (all_fit c.args.system.now.room c.args.room.now c.args.system.now.equations c.requires c.equations-equations.ensures.fit)
 

@@ -1,5 +1,4 @@
-use Rattle.std.proofs.Common.{◌≡◌, rules, to_z, of_z, arith, false, pos}
-use Rattle.std.proofs.lemmas.Int.{ints}
+use Rattle.std.proofs.Common.{◌≡◌, rules, to_z, of_z, false, pos}
 use mir.Syntax.{w128}
 use mir.Facts.{to_z-of_z}
 use Rattle.drg_linear.specs.Equations.{Term}

@@ -1,8 +1,6 @@
-use Rattle.std.proofs.Common.{◌≡◌, rules, to_z, of_z, arith, pos, ◌+ℤ◌, ◌≤ℤ◌, refl}
+use Rattle.std.proofs.Common.{◌≡◌, rules, to_z, of_z, arith, pos, ◌+ℤ◌}
 use mir.Syntax.{w128}
 use mir.Facts.{to_z-of_z}
-use Rattle.std.proofs.lemmas.Int.{ints}
-use Rattle.drg_linear.specs.Rooms.{bounds_at}
 use Rattle.drg_linear.specs.Unknowns.{place}
 use Rattle.drg_linear.proofs.Holding.{low_at}
 use Rattle.drg_solver.proofs.Division.{division, next_not_negative}

@@ -1,4 +1,4 @@
-use Rattle.std.proofs.Common.{◌≡◌, ◌<◌, rules, length, add-one}
+use Rattle.std.proofs.Common.{◌<◌, length, add-one}
 use Rattle.drg_rooms.specs.Combinations.{no_equation}
 use Rattle.drg_solver.proofs.Closed.{named_on}
 use Rattle.drg_solver.proofs.lines.names.Goals as goal

@@ -1,4 +1,4 @@
-use Rattle.std.proofs.Common.{◌≡◌, rules, to_z, of_z, ap, sym, ◌∙◌, pos}
+use Rattle.std.proofs.Common.{◌≡◌, rules, to_z, of_z, ap, ◌∙◌, pos}
 use mir.Syntax.{w128}
 use mir.Facts.{to_z-of_z}
 use Rattle.drg_linear.specs.Unknowns.{place}

@@ -1,4 +1,4 @@
-use Rattle.std.proofs.Common.{◌≡◌, ℕ, rules, true, sym}
+use Rattle.std.proofs.Common.{◌≡◌, ℕ, rules, true}
 use Rattle.std.specs.Prelude.{All}
 use Rattle.drg_linear.specs.Closing.{Misses, FailsModulo}
 use Rattle.drg_linear.specs.Equations.{is_equation}

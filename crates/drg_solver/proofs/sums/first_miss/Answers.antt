@@ -1,4 +1,4 @@
-use Rattle.std.proofs.Common.{◌≡◌, true, false, subst}
+use Rattle.std.proofs.Common.{◌≡◌, true, subst}
 use Rattle.drg_linear.specs.Closing.{Misses}
 use Rattle.drg_linear.specs.Equations.{EquationContent, is_equation}
 use Rattle.drg_solver.proofs.Passes.{one_more}
