@@ -21,7 +21,10 @@ Usage: python3 tools/check_examples.py
 - Each list of edges of examples/edges is the one that tools/make_edges.py makes, and has the answer of its
   row in examples/README.md, by `drg graph` and by tools/graph_answer.py.
 - Each array of examples whose name begins with wide is undecided, by the number that WIDE names.
-- Each array of the tables of examples/tables has the verdict that stands beside it in examples/tables/README.md.
+- Each array of the tables of examples/tables has the verdict that stands beside it in examples/tables/README.md, by
+  `drg check` and, for the rows of each table together, by `drg table`.
+- Each sample of SAMPLES is the same at each run, its numbers add up, and those of tests 1 to 9 are those of
+  tools/sample.py.
 - Each text of the table of docs/limits.md is refused at the place that stands there.
 - Each fault of FAULTS ends with its line on standard error and its exit number, and nothing is written. Those of
   `drg replay` do so by tools/replay.py too, and of several files it answers each as if it stood alone.
@@ -31,6 +34,8 @@ Usage: python3 tools/check_examples.py
 Each of these is one case. The last line printed is 'N passed, M failed', and the exit status is 0 where
 M is 0.
 """
+import csv
+import io
 import os
 import re
 import subprocess
@@ -43,6 +48,7 @@ from check_tables import TESTS as TABLE_TESTS
 from check_tables import rows_of_page
 from make_edges import made
 from orderings import ordering_lines
+from sample import COUNTING, counted
 from spectrum import spectrum_lines
 
 TOP = Path(__file__).resolve().parent.parent
@@ -73,10 +79,12 @@ CENSUSES = [
     *("1 1 2", "1 32 33", "2 3 8", "2 4 9", "2 5 16", "2 6 16", "2 8 27"),
     *("3 3 14", "3 4 15", "3 5 12", "3 6 27", "4 3 14", "4 4 16"),
 ]
+# Small samples: seed and count.
+SAMPLES = [(0, 0), (1, 1), (7, 200), (2147483647, 100)]
 # The greatest diameter, valency and number of vertices of a census.
 CENSUS_LIMITS = (4, 32, 2000)
 EXAMPLE = re.compile(r"^\.EX\n\$ (?P<command>.*)\n(?P<printed>(?:.*\n)*?)\.EE$", re.MULTILINE)
-SURVIVOR, INFEASIBLE, REFUSED, UNDECIDED, ACCEPTED, REJECTED, BAD_INPUT = 0, 1, 2, 3, 0, 5, 65
+SURVIVOR, INFEASIBLE, REFUSED, UNDECIDED, ACCEPTED, REJECTED, DONE, BAD_INPUT = 0, 1, 2, 3, 0, 5, 0, 65
 CANNOT_BUILD = 70
 # The exit number of an answer that isn't `accepted`, by its first word.
 REFUSED_STATUS = {"rejected": REJECTED, "undecided": UNDECIDED, "bad": BAD_INPUT}
@@ -102,6 +110,14 @@ FAULTS = [
     ("$drg graph examples/petersen.txt", "bad input, line 1, place 0", BAD_INPUT),
     ("$drg classical", "usage", 64),
     ("echo '{3,2;1}' | $drg classical /dev/stdin", "bad input, line 1, place 7", BAD_INPUT),
+    ("$drg table", "usage", 64),
+    ("$drg table --json examples/tables/open.csv", "usage", 64),
+    ("$drg table examples/petersen.txt", "bad input, line 1, place 0", BAD_INPUT),
+    ("printf 'a,{3;1}\\n\\nb,{3;0}\\n' | $drg table /dev/stdin", "bad input, line 2, place 4", BAD_INPUT),
+    ("$drg sample 1", "usage", 64),
+    ("$drg sample 01 1", "usage", 64),
+    ("$drg sample 2147483648 1", "usage", 64),
+    ("$drg sample 1 100001", "usage", 64),
     ("$drg census 2 3", "usage", 64),
     ("$drg census 5 3 10", "usage", 64),
     ("$drg census 2 33 100", "usage", 64),
@@ -376,6 +392,24 @@ def table_cases():
                 found = drg("check", "--tests", TABLE_TESTS, file.name).out.decode().split("\n")
             same = [line for line in found if line.startswith("verdict ")] == [f"verdict {row.verdict}"]
             yield is_true(f"examples/tables/{table}.csv: {row.array} is {row.verdict}", same)
+        written = io.StringIO()
+        csv.writer(written, lineterminator="\n").writerows([row.name, row.array, row.verdict] for row in rows)
+        name = f"examples/tables/{table}.csv"
+        wanted = Ran(written.getvalue().encode(), b"", DONE)
+        yield holds(f"drg table {name}", wanted, drg("table", "--tests", TABLE_TESTS, name))
+
+
+def sample_cases():
+    """The samples, each twice, against the numbers of the other program."""
+    for seed, count in SAMPLES:
+        name = f"drg sample {seed} {count}"
+        first, second = drg("sample", seed, count), drg("sample", seed, count)
+        yield is_true(f"{name}: is the same at each run", first == second and first.status == DONE)
+        lines = [line.rsplit(" ", 1) for line in first.out.decode().split("\n")[:-1]]
+        yield is_true(f"{name}: has its head line", lines[:1] == [[f"sample {seed}", str(count)]])
+        yield is_true(f"{name}: adds up", sum(int(number) for _, number in lines[1:]) == count)
+        found = [int(number) for words, number in lines if words.removeprefix("infeasible ") in COUNTING]
+        yield is_true(f"{name}: tests 1 to 9", found == counted(seed, count))
 
 
 def text_cases():
@@ -434,6 +468,7 @@ def main():
         census_cases,
         wide_cases,
         table_cases,
+        sample_cases,
         text_cases,
         fault_cases,
         copy_cases,

@@ -5,4 +5,5 @@ mod InputLemmas
 mod OutputLemmas
 mod ReplayLemmas
 mod RunLemmas
+mod TableLemmas
 mod WordLemmas

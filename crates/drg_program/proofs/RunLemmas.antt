@@ -39,8 +39,8 @@ is_answer : (command : Command) (bytes : List ℕ) (status : Status) (text : Lis
 is_answer (Check tests budget json file) bytes status text h =
     subst (λ (s : Status). IsAnswerOf s (Check tests budget json file)) (sym h.told) (judged h.verdict tests budget json file)
 is_answer (Replay file) bytes status text h = told h.derivation.claim (answer_of h.derivation) status text file h.concludes.tells
-is_answer (Table tests budget file) bytes status text h = absurd h
-is_answer (Sample seed count) bytes status text h = absurd h
+is_answer (Table tests budget file) bytes status text h = rw h.told tt
+is_answer (Sample seed count) bytes status text h = rw h.told tt
 is_answer (Graph file) bytes status text h = graph.told h.answer status file h.told
 is_answer (Census d k n) bytes status text h = rw h.told tt
 is_answer (Classical file) bytes status text h = classical.told h.array status text file h.tells
@@ -84,8 +84,8 @@ whole command bytes status text old new short output appended = (short, (text, o
 in_grammar : (command : Command) (bytes : List ℕ) (status : Status) (text : List ℕ) → IsOutput command bytes status text → IsInGrammar command bytes
 in_grammar (Check tests budget json file) bytes status text h = (h.array, h.read)
 in_grammar (Replay file) bytes status text h = (h.n, h.derivation, h.begins)
-in_grammar (Table tests budget file) bytes status text h = absurd h
-in_grammar (Sample seed count) bytes status text h = absurd h
+in_grammar (Table tests budget file) bytes status text h = (h.rows, h.read)
+in_grammar (Sample seed count) bytes status text h = tt
 in_grammar (Graph file) bytes status text h = (h.graph, h.read)
 in_grammar (Census d k n) bytes status text h = tt
 in_grammar (Classical file) bytes status text h = (h.array, h.read)
@@ -93,7 +93,7 @@ in_grammar (Classical file) bytes status text h = (h.array, h.read)
 not_in_grammar : (command : Command) (bytes : List ℕ) (line at : ℕ) → IsBadAt command bytes line at → IsInGrammar command bytes → ⊥
 not_in_grammar (Check tests budget json file) bytes line at (one, (none, kind, fault)) (a, is) = none a is
 not_in_grammar (Replay file) bytes line at (zero, (none, refused)) (n, δ, begins) = none n δ begins
-not_in_grammar (Table tests budget file) bytes line at bad good = absurd bad
+not_in_grammar (Table tests budget file) bytes line at (none, fault) (rows, read) = none (rows, read)
 not_in_grammar (Sample seed count) bytes line at bad good = absurd bad
 not_in_grammar (Graph file) bytes line at (zero, (none, fault)) (g, read) = none (g, read)
 not_in_grammar (Census d k n) bytes line at bad good = absurd bad

@@ -9,3 +9,5 @@ pub mod Graph
 pub mod Run
 pub mod Census
 pub mod Classical
+pub mod Table
+pub mod Sample

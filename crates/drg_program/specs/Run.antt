@@ -11,6 +11,8 @@ use Rattle.drg_program.specs.Classical.{AnswersClassical}
 use Rattle.drg_program.specs.Graph.{AnswersGraph, IsFaultInEdges, ListsEdges}
 use Rattle.drg_program.specs.Input.{IsTooLong, IsWithinLimit}
 use Rattle.drg_program.specs.Replay.{IsFaultInLine, Replays}
+use Rattle.drg_program.specs.Sample.{AnswersSample}
+use Rattle.drg_program.specs.Table.{AnswersTable, HasRows, IsFaultInRows}
 use Rattle.drg_program.specs.Words.{file_of}
 use Rattle.drg_program.specs.declared.output.Output.{Output}
 use Rattle.drg_program.specs.declared.output.EarlyRefusal.{EarlyRefusal}
@@ -24,17 +26,18 @@ use Rattle.drg_program.specs.declared.status.Status.TheVariants.{Survivor, Infea
 abbrev pub IsInGrammar : Command → List ℕ → Type 0
 IsInGrammar (Check tests budget json file) bytes = (a : Entries) × IsArrayOf bytes a
 IsInGrammar (Replay file) bytes = (n : ℕ) × (δ : Content) × Begins bytes n δ
-IsInGrammar (Table tests budget file) bytes = ⊥
-IsInGrammar (Sample seed count) bytes = ⊥
+IsInGrammar (Table tests budget file) bytes = HasRows bytes
+IsInGrammar (Sample seed count) bytes = ⊤
 IsInGrammar (Graph file) bytes = ListsEdges bytes
 IsInGrammar (Census d k n) bytes = ⊤
 IsInGrammar (Classical file) bytes = (a : Entries) × IsArrayOf bytes a
 
--- the bytes aren't in that grammar, and the first fault is in this line and place, where place 0 is the whole line
+-- the bytes aren't in that grammar, and the first fault is in this line and place, where place 0 is the whole line;
+-- the lines of a table are its records
 abbrev pub IsBadAt : Command → List ℕ → ℕ → ℕ → Type 0
 IsBadAt (Check tests budget json file) bytes line at = (line ≡ 1) × IsFaultAt bytes at
 IsBadAt (Replay file) bytes line at = (at ≡ 0) × IsFaultInLine bytes line
-IsBadAt (Table tests budget file) bytes line at = ⊥
+IsBadAt (Table tests budget file) bytes line at = IsFaultInRows bytes line at
 IsBadAt (Sample seed count) bytes line at = ⊥
 IsBadAt (Graph file) bytes line at = (at ≡ 0) × IsFaultInEdges bytes line
 IsBadAt (Census d k n) bytes line at = ⊥
@@ -44,8 +47,8 @@ IsBadAt (Classical file) bytes line at = (line ≡ 1) × IsFaultAt bytes at
 abbrev pub IsOutput : Command → List ℕ → Status → List ℕ → Type 0
 IsOutput (Check tests budget json file) bytes status text = Checks bytes tests json status text
 IsOutput (Replay file) bytes status text = Replays bytes status text
-IsOutput (Table tests budget file) bytes status text = ⊥
-IsOutput (Sample seed count) bytes status text = ⊥
+IsOutput (Table tests budget file) bytes status text = AnswersTable bytes tests status text
+IsOutput (Sample seed count) bytes status text = AnswersSample seed count status text
 IsOutput (Graph file) bytes status text = AnswersGraph bytes status text
 IsOutput (Census d k n) bytes status text = AnswersCensus d k n status text
 IsOutput (Classical file) bytes status text = AnswersClassical bytes status text
@@ -59,6 +62,8 @@ IsAnswerOf Undecided (Check tests budget json file) = ⊤
 IsAnswerOf Accepted (Replay file) = ⊤
 IsAnswerOf Rejected (Replay file) = ⊤
 IsAnswerOf Undecided (Replay file) = ⊤
+IsAnswerOf Done (Table tests budget file) = ⊤
+IsAnswerOf Done (Sample seed count) = ⊤
 IsAnswerOf Accepted (Graph file) = ⊤
 IsAnswerOf Rejected (Graph file) = ⊤
 IsAnswerOf Done (Census d k n) = ⊤

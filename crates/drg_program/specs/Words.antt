@@ -1,19 +1,13 @@
 -- Which words ask a run for a command, and which file the command reads.
-use Rattle.std.specs.Prelude.{⊤, ℕ, List, Option, Some, None}
+use Rattle.std.specs.Prelude.{ℕ, List, Option, Some, None}
 use Rattle.drg_words.specs.Commands.{AreWordsOf}
 use Rattle.drg_words.specs.Grammar.{Word}
 use Rattle.drg_words.specs.declared.command.Command.{Command}
 use Rattle.drg_words.specs.declared.command.Command.TheVariants.{Check, Replay, Table, Sample, Graph, Census, Classical}
 
--- A run carries the command out: each one but `table` and `sample`, whose words are refused.
-abbrev pub IsCarriedOut : Command → Type 0
-IsCarriedOut (Table tests budget file) = ⊥
-IsCarriedOut (Sample seed count) = ⊥
-IsCarriedOut command = ⊤
-
--- These are exactly the words of the command, with its options, its numbers and its file, and a run carries it out.
+-- These are exactly the words of the command, with its options, its numbers and its file.
 abbrev pub Asks : List Word → Command → Type 0
-Asks words command = AreWordsOf command words × IsCarriedOut command
+Asks words command = AreWordsOf command words
 
 -- The words ask for some command.
 abbrev pub IsAsked : List Word → Type 0

@@ -77,7 +77,7 @@ pub fn without_end(bytes: &[u8]) -> &[u8]
 }
 
 /// The right verdict on the array.
-fn judged(alloc: Global, array: &Array, tests: &TestSet) -> Result<Verdict, AllocError>
+pub fn judged(alloc: Global, array: &Array, tests: &TestSet) -> Result<Verdict, AllocError>
     requires { IsArray array.now }
     ensures { IfOk result (IsJudged array.now tests.now) }
 {

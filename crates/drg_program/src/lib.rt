@@ -6,8 +6,9 @@
 //! `specs/Input.antt`, what `check` finds of an array in `specs/Check.antt`, what `replay` finds of a
 //! derivation in `specs/Replay.antt` with its line in `specs/AnswerText.antt`, what `graph` finds of a
 //! graph in `specs/Graph.antt` with its line in `specs/GraphText.antt`, what `census` finds in
-//! `specs/Census.antt`, what `classical` finds in `specs/Classical.antt`, and how these make the answer of
-//! a run in `specs/Run.antt`. The verdicts on an array are those of `drg_engine`, their texts those of
+//! `specs/Census.antt`, what `classical` finds in `specs/Classical.antt`, what `table` finds in
+//! `specs/Table.antt`, what `sample` finds in `specs/Sample.antt`, and how these make the answer of a run in
+//! `specs/Run.antt`. The verdicts on an array are those of `drg_engine`, their texts those of
 //! `drg_report` and `drg_json`, and the answers on a graph those of `drg_edges`.
 //!
 //! A command is one variant of `Command` in `drg_words`, which reads the words, and one case in each
@@ -24,8 +25,9 @@ mod graph_text;
 mod input;
 mod output;
 mod replay;
+mod sample;
 mod status;
-mod words;
+mod table;
 
 ghost use Rattle.std.specs.Prelude.{◌≡◌, ◌≢◌, ◌≤◌, ◌⊎◌, ◌↔◌, ℕ, List};
 ghost use Rattle.drg_outside.specs.Causes.{Rose};
@@ -39,13 +41,14 @@ use census::arrays_of;
 use check::check;
 use classical::classical_file;
 use drg_outside::{Inputs, Sink, write_all};
-use drg_words::{Command, WordsFault, words_law};
+use drg_words::{Command, WordsFault, read, words_law};
 use graph::graph_file;
 use output::{EarlyRefusal, Output};
 use replay::replay_file;
+use sample::sample;
 pub use status::Status;
 use std::alloc::Global;
-use words::asked;
+use table::table;
 
 /// The longest input in bytes: 64 MiB.
 pub const INPUT_LIMIT: usize = 67_108_864;
@@ -63,6 +66,13 @@ pub const INPUT_LIMIT: usize = 67_108_864;
 /// which they fail is taken from the literature. `survivor` says that each test that ran holds.
 /// `refused-spectrum` and `undecided` say that each of them that is decided holds: the one with the factors
 /// that show that no one quadratic field holds the eigenvalues, the other with a number that is too wide.
+///
+/// After `table` the status is `done`, and there is a record for each row of the input, in the order of
+/// the rows: the name of the row, the text of its array, and the words of a right verdict on it. Rows with
+/// equal arrays have equal words. Of an infeasible array, too, there is a derivation that is accepted. A
+/// record that is no row is told in place of a line, counted from 1; place 0 says that it hasn't two
+/// fields. After `sample` the status is `done`, and the numbers that are written count the right verdicts
+/// on the arrays that the seed generates; no file is opened.
 ///
 /// After `replay` they are the answer of the derivation at the front of the input: `accepted` by counting
 /// says of its array, too, that no such graph has it, and `accepted` with a frame that the written numbers
@@ -124,7 +134,7 @@ pub fn run<I: Inputs, K: Sink>(
         → result ≢ Status.Memory → Decides command bytes result }
 {
     words_law();
-    match asked(alloc, words) {
+    match read(alloc, words) {
         Ok(command) => carry_out(alloc, &command, inputs, sink),
         Err(WordsFault::Usage) => Status::Usage,
         Err(WordsFault::Memory) => Status::Memory,
@@ -195,8 +205,12 @@ fn output_of<I: Inputs>(
             file,
         } => check(alloc, inputs, file, tests, *json),
         Command::Replay { file } => replay_file(alloc, inputs, file),
-        // No words ask for these.
-        Command::Table { .. } | Command::Sample { .. } => unreachable!(),
+        Command::Table {
+            tests,
+            budget: _,
+            file,
+        } => table(alloc, inputs, file, tests),
+        Command::Sample { seed, count } => sample(alloc, *seed, *count),
         Command::Graph { file } => graph_file(alloc, inputs, file),
         Command::Census { d, k, n } => arrays_of(alloc, *d, *k, *n),
         Command::Classical { file } => classical_file(alloc, inputs, file),
@@ -207,6 +221,8 @@ fn output_of<I: Inputs>(
 mod census_tests;
 #[cfg(test)]
 mod graph_tests;
+#[cfg(test)]
+mod table_tests;
 #[cfg(test)]
 mod tests;
 #[cfg(test)]

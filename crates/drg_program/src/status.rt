@@ -22,12 +22,13 @@ pub enum Status {
     /// A line of the derivation isn't met, or its claim isn't closed at the end; or the graph isn't
     /// distance-regular with any array.
     Rejected,
-    /// What was asked for is written whole, and there is no verdict to tell: the arrays of a census, or
-    /// classical parameters.
+    /// What was asked for is written whole, and there is no one verdict to tell: the rows of a table, the
+    /// summary of a sample, the arrays of a census, or classical parameters.
     Done,
     /// The words are no command.
     Usage,
-    /// The input isn't in the grammar. Line and place are counted from 1; place 0 is the whole line.
+    /// The input isn't in the grammar. Line and place are counted from 1; place 0 is the whole line. The
+    /// lines of a table are its records.
     BadInput { line: u64, at: u64 },
     /// The input has more than [`crate::INPUT_LIMIT`] bytes.
     TooLong,

@@ -382,7 +382,7 @@ fn calls_that_fail(rt: HostRuntime) -> Result<(), Fail> {
 #[test]
 fn words_that_are_no_command(rt: HostRuntime) -> Result<(), Fail> {
     let alloc = rt.alloc();
-    let cases: [&[&str]; 49] = [
+    let cases: [&[&str]; 47] = [
         &[],
         &[""],
         &["--"],
@@ -428,8 +428,6 @@ fn words_that_are_no_command(rt: HostRuntime) -> Result<(), Fail> {
         &["classical", "-x"],
         &["classical", "f", "f"],
         &["classical", "--tests", "none", "f"],
-        &["table", "f"],
-        &["sample", "1", "1"],
         &["--help"],
         &["f"],
     ];

@@ -3,7 +3,7 @@ use Rattle.drg_program.specs.Input.{AreInputOf, HasCauses}
 use Rattle.drg_program.specs.Run.{Ends}
 use Rattle.drg_program.specs.Words.{HasWords, file_of}
 use Rattle.drg_words.specs.declared.command.Command.{Command}
-use Rattle.drg_words.specs.declared.command.Command.TheVariants.{Census}
+use Rattle.drg_words.specs.declared.command.Command.TheVariants.{Census, Sample}
 use Rattle.drg_program.proofs.OutputLemmas.{ends_alone, no_file}
 use Rattle.drg_program.proofs.WordLemmas.{census_limits}
 use Rattle.drg_program.proofs.output_of.Goals as goal
@@ -20,6 +20,27 @@ returns-in-Replay-clause-output g c =
     let P : Command → Type 0 = λ command.
     (bytes : List ℕ) × AreInputOf (g.I.Inputs.files c.args.inputs.now) (file_of command) bytes × Ends command bytes c.replay_file.result in
     subst P (sym c.in-Replay.is) c.replay_file.ensures.output
+
+pub returns-in-Table-clause-output : goal.returns-in-Table-clause-output
+returns-in-Table-clause-output g c =
+    let P : Command → Type 0 = λ command.
+    (bytes : List ℕ) × AreInputOf (g.I.Inputs.files c.args.inputs.now) (file_of command) bytes × Ends command bytes c.table.result in
+    let found = c.table.ensures.output in
+    subst P (sym c.in-Table.is) (found.0, found.1, found.2 c.in-Table.budget)
+
+pub returns-in-Sample-clause-output : goal.returns-in-Sample-clause-output
+returns-in-Sample-clause-output g c =
+    let P : Command → Type 0 = λ command.
+    (bytes : List ℕ) × AreInputOf (g.I.Inputs.files c.args.inputs.now) (file_of command) bytes × Ends command bytes c.sample.result in
+    subst P (sym c.in-Sample.is) ([], refl, ends_alone (Sample c.in-Sample.seed c.in-Sample.count) c.sample.result c.sample.ensures)
+
+pub returns-in-Sample-clause-causes : goal.returns-in-Sample-clause-causes
+returns-in-Sample-clause-causes g c =
+    let files = g.I.Inputs.files c.args.inputs.now in
+    let opened = g.I.Inputs.open_faults c.args.inputs.now in
+    let read = g.I.Inputs.read_faults c.args.inputs.now in
+    let P : Command → Type 0 = λ command. HasCauses (file_of command) files opened opened read read c.sample.result in
+    subst P (sym c.in-Sample.is) (no_file (Sample c.in-Sample.seed c.in-Sample.count) c.sample.result files opened read c.sample.ensures)
 
 pub returns-in-Graph-clause-output : goal.returns-in-Graph-clause-output
 returns-in-Graph-clause-output g c =
